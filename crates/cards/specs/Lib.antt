@@ -1,0 +1,9 @@
+pub mod Game
+pub mod Floor
+pub mod Match
+pub mod Played
+pub mod Promise
+pub mod Reckon
+pub mod Table
+pub mod Rotating
+pub mod Apart
