@@ -1,2 +1,5 @@
 pub mod Read
 pub mod Sound
+pub mod Play
+pub mod Sights
+pub mod Memory

@@ -31,6 +31,13 @@ pub struct Sheet {
     pub reserved: u8,
 }
 
+// What each player has at the end of a hand.
+#[derive(Clone, Copy)]
+pub struct Ends {
+    pub house: u32,
+    pub guest: u32,
+}
+
 // Why bytes are no rule sheet.
 #[derive(Clone, Copy)]
 pub enum Refusal {
