@@ -1,1 +1,3 @@
 pub mod Rep
+pub mod Compact
+pub mod Flat

@@ -1,5 +1,16 @@
 // The tree of a rule sheet, laid out in lent memory.
+ghost use mathlib.Core.Path.{_≡_};
+ghost use mathlib.Core.List.{List, [], map};
+ghost use Prim.Native.Nat.{ℕ, _+_, _*_, _-_, _≤_, _<_};
+ghost use lib.ListN.{length, take, getD};
+ghost use Rattle.rules.specs.Play.{other as otherOf, purse as purseOf, left as leftOf, without};
+ghost use Rattle.rules.specs.Sound.{Sound};
+ghost use Rattle.tree.specs.declared.Hand.{Hand};
+ghost use Rattle.tree.specs.Compact.{Play, end, size, wonBy, actedAs, dueOf, answersAs, opensAs, roundAs, dealsAs, lineAs, sightOf, settledAs, shows, shownAs, secondAs, sits, firstAs, gameAs};
+ghost use Rattle.tree.specs.Flat.{Written, Fair, secondCard, guestCard, betSize, firstSize, seat, unnumbered, Noted};
 use rules::Ends;
+use rules::Player;
+use rules::Sheet;
 
 // The choices of a round so far: so many checks, then so many bets and raises. A call ends a round and is not counted.
 #[derive(Clone, Copy)]
@@ -39,4 +50,384 @@ pub struct Node {
     pub place: Place,
     pub share: u32,
     pub size: u32,
+}
+
+// What each player has put in.
+#[derive(Clone, Copy)]
+struct Paid {
+    house: u32,
+    guest: u32,
+}
+
+// A hand in play.
+#[derive(Clone, Copy)]
+struct Hand {
+    house: u8,
+    guest: u8,
+    paid: Paid,
+    history: History,
+}
+
+// What a player does and the game goes on.
+#[derive(Clone, Copy)]
+enum Act {
+    Check,
+    Bet,
+    Call,
+    Raise,
+}
+
+// What is played for in a round: what each player sat down with, and the bet.
+#[derive(Clone, Copy)]
+struct Stakes {
+    purse: u32,
+    bet: u32,
+}
+
+fn other(w: Player) -> Player
+    ensures { λ r. ⌜ r ≡ otherOf w ⌝ }
+{
+    match w {
+        Player::House => Player::Guest,
+        Player::Guest => Player::House,
+    }
+}
+
+fn lengthened(a: Act, l: Line) -> Line
+    requires { ⌜ l .checks ≤ 240 ⌝ ∗ ⌜ l .bets ≤ 240 ⌝ }
+    ensures { λ r. ⌜ r ≡ lineAs a l ⌝ }
+{
+    match a {
+        Act::Check => Line { checks: l.checks + 1, bets: l.bets },
+        Act::Bet | Act::Raise => Line { checks: l.checks, bets: l.bets + 1 },
+        Act::Call => l,
+    }
+}
+
+fn acted(who: Player, a: Act, k: u32, hand: Hand) -> Hand
+    requires { ⌜ Fair 0 hand ⌝ ∗ ⌜ k ≤ 1000 ⌝ }
+    ensures { λ r. ⌜ r ≡ actedAs who a k hand ⌝ }
+{
+    let p = hand.paid;
+    let paid = match who {
+        Player::House => Paid { house: p.house + k, guest: p.guest },
+        Player::Guest => Paid { house: p.house, guest: p.guest + k },
+    };
+    let h = hand.history;
+    let history = match h.public {
+        None => History { first: lengthened(a, h.first), public: h.public, second: h.second },
+        Some(_) => History { first: h.first, public: h.public, second: lengthened(a, h.second) },
+    };
+    Hand { house: hand.house, guest: hand.guest, paid, history }
+}
+
+// What a player has to put in to call.
+fn due(who: Player, p: Paid) -> u32
+    ensures { λ r. ⌜ r ≡ dueOf who p ⌝ }
+{
+    match who {
+        Player::House => p.guest.saturating_sub(p.house),
+        Player::Guest => p.house.saturating_sub(p.guest),
+    }
+}
+
+// What each player has where this one takes all.
+fn won_by(purse: u32, who: Player, hand: Hand) -> Ends
+    requires { ⌜ Fair 0 hand ⌝ ∗ ⌜ purse ≤ 1000 ⌝ }
+    ensures { λ r. ⌜ r ≡ wonBy purse who hand ⌝ }
+{
+    match who {
+        Player::House => Ends { house: purse + hand.paid.guest, guest: purse.saturating_sub(hand.paid.guest) },
+        Player::Guest => Ends { house: purse.saturating_sub(hand.paid.house), guest: purse + hand.paid.house },
+    }
+}
+
+// A place where a player is to choose, its sight not numbered yet.
+fn choice(who: Player, hand: Hand) -> Place
+    ensures { λ r. ⌜ r ≡ seat unnumbered unnumbered who (sightOf who hand) ⌝ }
+{
+    match who {
+        Player::House => Place::House(Sight { own: hand.house, history: hand.history }, 0),
+        Player::Guest => Place::Guest(Sight { own: hand.guest, history: hand.history }, 0),
+    }
+}
+
+// An end, with what the house has.
+fn over(out: &mut [Node], at: usize, share: u32, ends: Ends) -> usize
+    requires { ⌜ at < length (now out) ⌝ ∗ ⌜ length (now out) ≤ 65536 ⌝ }
+    ensures { λ r. ⌜ Written share (end ends) at (now (out .entry)) (now (out .exit)) r ⌝ }
+{
+    out[at] = Node { place: Place::Over(ends), share, size: 1 };
+    at + 1
+}
+
+// What follows a round of betting.
+trait Follow {
+    ghost then: { Self → Hand → Play };
+
+    // How much more has to fit each number of the hand
+    ghost spare: { ℕ };
+
+    // What has to hold of the follower
+    ghost able: { Self → Type 0 };
+
+    fn follow(self, out: &mut [Node], at: usize, hand: Hand) -> usize
+        requires able { ⌜ able self ⌝ }
+        requires room { ⌜ at + size (then self hand) ≤ length (now out) ⌝ }
+        requires small { ⌜ length (now out) ≤ 65536 ⌝ }
+        requires fair { ⌜ Fair spare hand ⌝ }
+        ensures { λ r. ⌜ Written 0 (then self hand) at (now (out .entry)) (now (out .exit)) r ⌝ };
+}
+
+// The choices after a bet, where so many raises may still be made.
+fn answers<F: Follow + Copy>(next: F, out: &mut [Node], at: usize, stakes: Stakes, raises: u8, who: Player, hand: Hand) -> usize
+    requires able { ⌜ able next ⌝ }
+    requires room { ⌜ at + size (answersAs (stakes .purse) (stakes .bet) (then next) raises who hand) ≤ length (now out) ⌝ }
+    requires small { ⌜ length (now out) ≤ 65536 ⌝ }
+    requires fair { ⌜ Fair (10 * raises + spare) hand ⌝ }
+    requires stakes { ⌜ stakes .purse ≤ 1000 ⌝ ∗ ⌜ stakes .bet ≤ 10 ⌝ }
+    ensures { λ r. ⌜ Written 0 (answersAs (stakes .purse) (stakes .bet) (then next) raises who hand) at (now (out .entry)) (now (out .exit)) r ⌝ }
+{
+    let owed = due(who, hand.paid);
+    let mut k = over(out, at + 1, 0, won_by(stakes.purse, other(who), hand));
+    k = next.follow(out, k, acted(who, Act::Call, owed, hand));
+    if raises > 0 {
+        k = answers(next, out, k, stakes, raises - 1, other(who), acted(who, Act::Raise, owed + stakes.bet, hand));
+    }
+    out[at] = Node { place: choice(who, hand), share: 0, size: (k - at) as u32 };
+    k
+}
+
+// The choices after a check of the other player.
+fn checked<F: Follow + Copy>(next: F, out: &mut [Node], at: usize, stakes: Stakes, raises: u8, who: Player, hand: Hand) -> usize
+    requires able { ⌜ able next ⌝ }
+    requires room { ⌜ at + size (opensAs (stakes .purse) (stakes .bet) (then next) raises (then next) who hand) ≤ length (now out) ⌝ }
+    requires small { ⌜ length (now out) ≤ 65536 ⌝ }
+    requires fair { ⌜ Fair (10 + (10 * raises + spare)) hand ⌝ }
+    requires stakes { ⌜ stakes .purse ≤ 1000 ⌝ ∗ ⌜ stakes .bet ≤ 10 ⌝ }
+    ensures { λ r. ⌜ Written 0 (opensAs (stakes .purse) (stakes .bet) (then next) raises (then next) who hand) at (now (out .entry)) (now (out .exit)) r ⌝ }
+{
+    let mut k = next.follow(out, at + 1, acted(who, Act::Check, 0, hand));
+    k = answers(next, out, k, stakes, raises, other(who), acted(who, Act::Bet, stakes.bet, hand));
+    out[at] = Node { place: choice(who, hand), share: 0, size: (k - at) as u32 };
+    k
+}
+
+// A round of betting.
+fn round<F: Follow + Copy>(next: F, out: &mut [Node], at: usize, share: u32, stakes: Stakes, raises: u8, who: Player, hand: Hand) -> usize
+    requires able { ⌜ able next ⌝ }
+    requires room { ⌜ at + size (roundAs (stakes .purse) (stakes .bet) (then next) raises who hand) ≤ length (now out) ⌝ }
+    requires small { ⌜ length (now out) ≤ 65536 ⌝ }
+    requires fair { ⌜ Fair (20 + (10 * raises + spare)) hand ⌝ }
+    requires stakes { ⌜ stakes .purse ≤ 1000 ⌝ ∗ ⌜ stakes .bet ≤ 10 ⌝ }
+    ensures { λ r. ⌜ Written share (roundAs (stakes .purse) (stakes .bet) (then next) raises who hand) at (now (out .entry)) (now (out .exit)) r ⌝ }
+{
+    let mut k = checked(next, out, at + 1, stakes, raises, other(who), acted(who, Act::Check, 0, hand));
+    k = answers(next, out, k, stakes, raises, other(who), acted(who, Act::Bet, stakes.bet, hand));
+    out[at] = Node { place: choice(who, hand), share, size: (k - at) as u32 };
+    k
+}
+
+// What a dealt card leads to.
+trait Card {
+    ghost after: { Self → ℕ → Play };
+
+    ghost ready: { Self → ℕ → Type 0 };
+
+    fn lead(self, out: &mut [Node], at: usize, rank: u8, share: u32) -> usize
+        requires ready { ⌜ ready self rank ⌝ }
+        requires room { ⌜ at + size (after self rank) ≤ length (now out) ⌝ }
+        requires small { ⌜ length (now out) ≤ 65536 ⌝ }
+        ensures { λ r. ⌜ Written share (after self rank) at (now (out .entry)) (now (out .exit)) r ⌝ };
+}
+
+// A deal, with a tree for each rank that is left.
+fn deal<C: Card + Copy>(card: C, out: &mut [Node], at: usize, share: u32, deck: [u8; 13], ranks: u8) -> usize
+    requires ready { ⌜ ((r : ℕ) → r < ranks → 0 < getD deck r 0 → ready card r) ⌝ }
+    requires room { ⌜ at + size (dealsAs (take ranks deck) (after card)) ≤ length (now out) ⌝ }
+    requires small { ⌜ length (now out) ≤ 65536 ⌝ }
+    requires ranks { ⌜ ranks ≤ 13 ⌝ }
+    ensures { λ r. ⌜ Written share (dealsAs (take ranks deck) (after card)) at (now (out .entry)) (now (out .exit)) r ⌝ }
+{
+    let mut k = at + 1;
+    let mut cards: u32 = 0;
+    for r in 0..ranks {
+        let left = deck[r as usize] as u32;
+        if left > 0 {
+            k = card.lead(out, k, r, left);
+            cards += left;
+        }
+    }
+    out[at] = Node { place: Place::Deal(cards), share, size: (k - at) as u32 };
+    k
+}
+
+// The end of a hand without a fold: higher ranks, or the public card's.
+#[derive(Clone, Copy)]
+struct Showdown {
+    purse: u32,
+    public: Option<u8>,
+}
+
+fn settled(purse: u32, public: Option<u8>, hand: Hand) -> Ends
+    requires { ⌜ Fair 0 hand ⌝ ∗ ⌜ purse ≤ 1000 ⌝ }
+    ensures { λ r. ⌜ r ≡ settledAs purse public hand ⌝ }
+{
+    if let Some(rank) = public {
+        if hand.house == rank && hand.guest != rank {
+            return won_by(purse, Player::House, hand);
+        }
+        if hand.guest == rank && hand.house != rank {
+            return won_by(purse, Player::Guest, hand);
+        }
+    }
+    if hand.guest < hand.house {
+        return won_by(purse, Player::House, hand);
+    }
+    if hand.house < hand.guest {
+        return won_by(purse, Player::Guest, hand);
+    }
+    Ends { house: purse, guest: purse }
+}
+
+impl Follow for Showdown as ShowdownFollow {
+    ghost then = { λ s h. end (settledAs (s .purse) (s .public) h) };
+
+    ghost spare = { 0 };
+
+    ghost able = { λ s. s .purse ≤ 1000 };
+
+    fn follow(self, out: &mut [Node], at: usize, hand: Hand) -> usize {
+        over(out, at, 0, settled(self.purse, self.public, hand))
+    }
+}
+
+// A card that is shown to both, with the round that follows.
+#[derive(Clone, Copy)]
+struct PublicCard {
+    sheet: Sheet,
+    hand: Hand,
+}
+
+fn purse(sheet: Sheet) -> u32
+    requires { ⌜ Sound sheet ⌝ }
+    ensures { λ r. ⌜ r ≡ purseOf sheet ⌝ ∗ ⌜ r ≤ 1000 ⌝ }
+{
+    let x = 1 + sheet.raises as u32;
+    let first = sheet.bets.ante as u32 + sheet.bets.first as u32 * x;
+    if sheet.public { first + sheet.bets.second as u32 * x } else { first }
+}
+
+fn show(hand: Hand, rank: u8) -> Hand
+    ensures { λ r. ⌜ r ≡ shows rank hand ⌝ }
+{
+    let h = hand.history;
+    Hand { house: hand.house, guest: hand.guest, paid: hand.paid, history: History { first: h.first, public: Some(rank), second: h.second } }
+}
+
+impl Card for PublicCard as PublicCardCard {
+    ghost after = { λ s r. shownAs (s .sheet) r (s .hand) };
+
+    ghost ready = { λ s r. Sound (s .sheet) × Fair 50 (s .hand) };
+
+    fn lead(self, out: &mut [Node], at: usize, rank: u8, share: u32) -> usize {
+        let sheet = self.sheet;
+        let purse = purse(sheet);
+        let stakes = Stakes { purse, bet: sheet.bets.second as u32 };
+        round(Showdown { purse, public: Some(rank) }, out, at, share, stakes, sheet.raises, sheet.begins, show(self.hand, rank))
+    }
+}
+
+// The deal of the public card.
+#[derive(Clone, Copy)]
+struct PublicDeal {
+    sheet: Sheet,
+    deck: [u8; 13],
+}
+
+impl Follow for PublicDeal as PublicDealFollow {
+    ghost then = { λ s h. secondAs (s .sheet) (take (s .sheet .ranks) (s .deck)) h };
+
+    ghost spare = { 50 };
+
+    ghost able = { λ s. Sound (s .sheet) };
+
+    fn follow(self, out: &mut [Node], at: usize, hand: Hand) -> usize {
+        deal(PublicCard { sheet: self.sheet, hand }, out, at, 0, self.deck, self.sheet.ranks)
+    }
+}
+
+// A hand as the betting begins.
+fn seated(ante: u8, house: u8, guest: u8) -> Hand
+    requires { ⌜ ante ≤ 10 ⌝ }
+    ensures { λ r. ⌜ r ≡ sits ante house guest ⌝ ∗ ⌜ Fair 100 r ⌝ }
+{
+    let none = Line { checks: 0, bets: 0 };
+    Hand { house, guest, paid: Paid { house: ante as u32, guest: ante as u32 }, history: History { first: none, public: None, second: none } }
+}
+
+// The deck without a card of this rank.
+fn drawn(deck: [u8; 13], rank: u8) -> [u8; 13]
+    requires { ⌜ rank < 13 ⌝ ∗ ⌜ 0 < getD deck rank 0 ⌝ }
+    ensures { λ r. ⌜ r ≡ without rank deck ⌝ }
+{
+    let mut left = deck;
+    left[rank as usize] -= 1;
+    left
+}
+
+// The card of the guest, after the house's.
+#[derive(Clone, Copy)]
+struct GuestCard {
+    sheet: Sheet,
+    house: u8,
+    deck: [u8; 13],
+}
+
+impl Card for GuestCard as GuestCardCard {
+    ghost after = { λ s b. firstAs (s .sheet) (take (s .sheet .ranks) (without b (s .deck))) (sits (s .sheet .bets .ante) (s .house) b) };
+
+    ghost ready = { λ s r. Sound (s .sheet) × ((r < 13) × (0 < getD (s .deck) r 0)) };
+
+    fn lead(self, out: &mut [Node], at: usize, rank: u8, share: u32) -> usize {
+        let sheet = self.sheet;
+        let deck = drawn(self.deck, rank);
+        let hand = seated(sheet.bets.ante, self.house, rank);
+        let purse = purse(sheet);
+        let stakes = Stakes { purse, bet: sheet.bets.first as u32 };
+        if sheet.public {
+            round(PublicDeal { sheet, deck }, out, at, share, stakes, sheet.raises, sheet.begins, hand)
+        } else {
+            round(Showdown { purse, public: None }, out, at, share, stakes, sheet.raises, sheet.begins, hand)
+        }
+    }
+}
+
+// The card of the house.
+#[derive(Clone, Copy)]
+struct HouseCard {
+    sheet: Sheet,
+    deck: [u8; 13],
+}
+
+impl Card for HouseCard as HouseCardCard {
+    ghost after = { λ s a. secondCard (s .sheet) (s .deck) a };
+
+    ghost ready = { λ s r. Sound (s .sheet) × ((r < 13) × (0 < getD (s .deck) r 0)) };
+
+    fn lead(self, out: &mut [Node], at: usize, rank: u8, share: u32) -> usize {
+        let deck = drawn(self.deck, rank);
+        deal(GuestCard { sheet: self.sheet, house: rank, deck }, out, at, share, deck, self.sheet.ranks)
+    }
+}
+
+// The whole tree, its sights not numbered yet.
+fn written(sheet: Sheet, out: &mut [Node]) -> usize
+    requires sound { ⌜ Sound sheet ⌝ }
+    requires room { ⌜ size (gameAs sheet) ≤ length (now out) ⌝ }
+    requires small { ⌜ length (now out) ≤ 65536 ⌝ }
+    ensures { λ r. ⌜ Written 0 (gameAs sheet) 0 (now (out .entry)) (now (out .exit)) r ⌝ }
+{
+    let deck = [sheet.copies; 13];
+    deal(HouseCard { sheet, deck }, out, 0, 0, deck, sheet.ranks)
 }

@@ -1,0 +1,6 @@
+mod Put
+mod Lay
+mod Fairs
+mod Rounds
+mod Deals
+mod Decks
