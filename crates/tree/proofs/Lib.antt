@@ -4,3 +4,4 @@ mod Fairs
 mod Rounds
 mod Deals
 mod Decks
+mod Counts

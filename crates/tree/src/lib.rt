@@ -431,3 +431,68 @@ fn written(sheet: Sheet, out: &mut [Node]) -> usize
     let deck = [sheet.copies; 13];
     deal(HouseCard { sheet, deck }, out, 0, 0, deck, sheet.ranks)
 }
+
+// The places of a round of betting, where so many follow each end without a fold.
+fn betting(raises: u8, follow: u32) -> u32
+    requires { ⌜ raises ≤ 3 ⌝ ∗ ⌜ follow ≤ 1000 ⌝ }
+    ensures { λ r. ⌜ r ≡ betSize raises follow ⌝ ∗ ⌜ r ≤ 10 + 9 * follow + 8 ⌝ }
+{
+    let answers = (raises as u32 + 1) * (2 + follow);
+    2 + follow + 2 * answers
+}
+
+// How many ranks are left.
+fn ranks_left(deck: [u8; 13], ranks: u8) -> u32
+    requires { ⌜ ranks ≤ 13 ⌝ }
+    ensures { λ r. ⌜ r ≡ length (leftOf (take ranks deck)) ⌝ ∗ ⌜ r ≤ 13 ⌝ }
+{
+    let mut n: u32 = 0;
+    for r in 0..ranks {
+        if deck[r as usize] > 0 {
+            n += 1;
+        }
+    }
+    n
+}
+
+// The places from the first round on.
+fn count_first(sheet: Sheet, deck: [u8; 13]) -> u32
+    requires { ⌜ Sound sheet ⌝ }
+    ensures { λ r. ⌜ r ≡ firstSize sheet (take (sheet .ranks) deck) ⌝ ∗ ⌜ r ≤ 6000 ⌝ }
+{
+    if sheet.public {
+        let shown = betting(sheet.raises, 1);
+        betting(sheet.raises, 1 + ranks_left(deck, sheet.ranks) * shown)
+    } else {
+        betting(sheet.raises, 1)
+    }
+}
+
+// The places from the guest's card on.
+fn count_guest(sheet: Sheet, deck: [u8; 13]) -> u32
+    requires { ⌜ Sound sheet ⌝ }
+    ensures { λ r. ⌜ ((a : ℕ) → r ≡ size (guestCard sheet deck a)) ⌝ ∗ ⌜ r ≤ 80000 ⌝ }
+{
+    let mut n: u32 = 1;
+    for b in 0..sheet.ranks {
+        if deck[b as usize] > 0 {
+            n += count_first(sheet, drawn(deck, b));
+        }
+    }
+    n
+}
+
+// The places of the whole tree.
+fn count(sheet: Sheet) -> u32
+    requires { ⌜ Sound sheet ⌝ }
+    ensures { λ r. ⌜ r ≡ size (gameAs sheet) ⌝ }
+{
+    let deck = [sheet.copies; 13];
+    let mut n: u32 = 1;
+    for a in 0..sheet.ranks {
+        if deck[a as usize] > 0 {
+            n += count_guest(sheet, drawn(deck, a));
+        }
+    }
+    n
+}
