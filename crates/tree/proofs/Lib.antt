@@ -5,3 +5,6 @@ mod Rounds
 mod Deals
 mod Decks
 mod Counts
+mod Equal
+mod Sees
+mod Tables

@@ -1,3 +1,5 @@
 pub mod Rep
 pub mod Compact
 pub mod Flat
+pub mod Seen
+pub mod Slots

@@ -8,6 +8,8 @@ ghost use Rattle.rules.specs.Sound.{Sound};
 ghost use Rattle.tree.specs.declared.Hand.{Hand};
 ghost use Rattle.tree.specs.Compact.{Play, end, size, wonBy, actedAs, dueOf, answersAs, opensAs, roundAs, dealsAs, lineAs, sightOf, settledAs, shows, shownAs, secondAs, sits, firstAs, gameAs};
 ghost use Rattle.tree.specs.Flat.{Written, Fair, secondCard, guestCard, betSize, firstSize, seat, unnumbered, Noted};
+ghost use Rattle.tree.specs.Seen.{seenAt, seenIn, noted};
+ghost use Rattle.tree.specs.Slots.{slotOf, Ranged, Tabled, tabledPlace, tabledNode, Slotted};
 use rules::Ends;
 use rules::Player;
 use rules::Sheet;
@@ -492,6 +494,59 @@ fn count(sheet: Sheet) -> u32
     for a in 0..sheet.ranks {
         if deck[a as usize] > 0 {
             n += count_guest(sheet, drawn(deck, a));
+        }
+    }
+    n
+}
+
+// The sight of this player at a place.
+fn seen_at(who: Player, place: Place) -> Option<Sight>
+    ensures { λ r. ⌜ r ≡ seenAt who place ⌝ }
+{
+    match (who, place) {
+        (Player::House, Place::House(z, _)) => Some(z),
+        (Player::Guest, Place::Guest(z, _)) => Some(z),
+        (Player::House, Place::Over(_)) => None,
+        (Player::House, Place::Deal(_)) => None,
+        (Player::House, Place::Guest(_, _)) => None,
+        (Player::Guest, Place::Over(_)) => None,
+        (Player::Guest, Place::Deal(_)) => None,
+        (Player::Guest, Place::House(_, _)) => None,
+    }
+}
+
+// Where a sight stands in a table.
+fn slot(z: Sight) -> usize
+    ensures { λ r. ⌜ r ≡ slotOf z ⌝ }
+{
+    let public = match z.history.public {
+        None => 0,
+        Some(r) => r as usize + 1,
+    };
+    let first = z.history.first.checks as usize * 5 + z.history.first.bets as usize;
+    let second = z.history.second.checks as usize * 5 + z.history.second.bets as usize;
+    ((public * 15 + second) * 13 + z.own as usize) * 15 + first
+}
+
+// Notes each sight of this player once, in the order in which they are met. The table begins with zeros and then holds, for
+// each sight met, its number and one more.
+fn collect(nodes: &[Node], who: Player, sights: &mut [Sight], table: &mut [u32]) -> usize
+    requires room { ⌜ length (noted [] (seenIn who (now nodes))) ≤ length (now sights) ⌝ }
+    requires few { ⌜ length (now nodes) ≤ 65536 ⌝ }
+    requires ranged { ⌜ Ranged (length (now table)) who (now nodes) ⌝ }
+    requires zeros { ⌜ ((k : ℕ) → getD (now table) k 0 ≡ 0) ⌝ }
+    ensures sights { λ r. ⌜ Noted (noted [] (seenIn who (now (nodes .entry)))) (now (sights .entry)) (now (sights .exit)) r ⌝ }
+    ensures table { λ _. ⌜ Tabled (length (now (table .entry))) (now (table .exit)) (noted [] (seenIn who (now (nodes .entry)))) ⌝ }
+{
+    let mut n = 0;
+    for i in 0..nodes.len() {
+        if let Some(z) = seen_at(who, nodes[i].place) {
+            let k = slot(z);
+            if table[k] == 0 {
+                sights[n] = z;
+                n += 1;
+                table[k] = n as u32;
+            }
         }
     }
     n
