@@ -134,14 +134,21 @@ noted-push zs ys s0 s n z e h l q =
       holds = put-one s n z (omega arith) ∙ ap (λ m. put m n (z ∷ [])) (q .holds) ∙ put-more s0 zs (z ∷ []) 0 n (omega arith) (omega arith) ∙ ap (put s0 0) (sym e) }
 
 -- numbering in place
+module _ (f : Node → Node) (s0 s : List Node) (i : ℕ) (d : Node) (h : i < length s0) (e : s ≡ map f (take i s0) ++ drop i s0) where
+  front : length (map f (take i s0)) ≡ i
+  front = length-map (take i s0) f ∙ length-take-le i s0 (omega arith)
+
+  goes-on : s ≡ map f (take i s0) ++ (getD s0 i d ∷ drop (i + 1) s0)
+  goes-on = e ∙ ap (λ l. map f (take i s0) ++ l) (drop-more s0 i d h)
+
+  pub map-here : getD s i d ≡ getD s0 i d
+  map-here = ap (λ l. getD l i d) goes-on ∙ getD-at (map f (take i s0)) (getD s0 i d) (drop (i + 1) s0) d i front
+
 pub map-next : (f : Node → Node) (s0 s : List Node) (i : ℕ) (d v : Node) → i < length s0 → s ≡ map f (take i s0) ++ drop i s0 → v ≡ f (getD s i d) →
     set s i v ≡ map f (take (i + 1) s0) ++ drop (i + 1) s0
 map-next f s0 s i d v h e ev =
-    let lp : length (map f (take i s0)) ≡ i = length-map (take i s0) f ∙ length-take-le i s0 (omega arith) in
-    let e2 : s ≡ map f (take i s0) ++ (getD s0 i d ∷ drop (i + 1) s0) = e ∙ ap (λ l. map f (take i s0) ++ l) (drop-more s0 i d h) in
-    let g : getD s i d ≡ getD s0 i d = ap (λ l. getD l i d) e2 ∙ getD-at (map f (take i s0)) (getD s0 i d) (drop (i + 1) s0) d i lp in
-    ap (λ l. set l i v) e2 ∙ set-at (map f (take i s0)) (getD s0 i d) (drop (i + 1) s0) v i lp
-    ∙ ap (λ x. map f (take i s0) ++ (x ∷ drop (i + 1) s0)) (ev ∙ ap f g)
+    ap (λ l. set l i v) (goes-on f s0 s i d h e) ∙ set-at (map f (take i s0)) (getD s0 i d) (drop (i + 1) s0) v i (front f s0 s i d h e)
+    ∙ ap (λ x. map f (take i s0) ++ (x ∷ drop (i + 1) s0)) (ev ∙ ap f (map-here f s0 s i d h e))
     ∙ sym (append-assoc (map f (take i s0)) (f (getD s0 i d) ∷ []) (drop (i + 1) s0))
     ∙ ap (λ l. l ++ drop (i + 1) s0) (sym (map-more f s0 i d h))
 

@@ -7,6 +7,7 @@ ghost use Rattle.rules.specs.Play.{other as otherOf, purse as purseOf, left as 
 ghost use Rattle.rules.specs.Sound.{Sound};
 ghost use Rattle.tree.specs.declared.Hand.{Hand};
 ghost use Rattle.tree.specs.Compact.{Play, end, size, wonBy, actedAs, dueOf, answersAs, opensAs, roundAs, dealsAs, lineAs, sightOf, settledAs, shows, shownAs, secondAs, sits, firstAs, gameAs};
+ghost use Rattle.tree.specs.Rep.{nodeAt};
 ghost use Rattle.tree.specs.Flat.{Written, Fair, secondCard, guestCard, betSize, firstSize, seat, unnumbered, Noted};
 ghost use Rattle.tree.specs.Seen.{seenAt, seenIn, noted};
 ghost use Rattle.tree.specs.Slots.{slotOf, Ranged, Tabled, tabledPlace, tabledNode, Slotted};
@@ -550,4 +551,28 @@ fn collect(nodes: &[Node], who: Player, sights: &mut [Sight], table: &mut [u32])
         }
     }
     n
+}
+
+// A place with the number of its sight, by the tables of the two players.
+fn numbered(place: Place, house: &[u32], guest: &[u32]) -> Place
+    requires { ⌜ Slotted (now house) (now guest) place ⌝ }
+    ensures { λ r. ⌜ r ≡ tabledPlace (now (house .entry)) (now (guest .entry)) place ⌝ }
+{
+    match place {
+        Place::Over(ends) => Place::Over(ends),
+        Place::Deal(parts) => Place::Deal(parts),
+        Place::House(z, _) => Place::House(z, house[slot(z)].saturating_sub(1)),
+        Place::Guest(z, _) => Place::Guest(z, guest[slot(z)].saturating_sub(1)),
+    }
+}
+
+// Gives each place the number of its sight.
+fn number(nodes: &mut [Node], house: &[u32], guest: &[u32])
+    requires { ⌜ ((i : ℕ) → i < length (now nodes) → Slotted (now house) (now guest) (nodeAt (now nodes) i .place)) ⌝ }
+    ensures { λ _. ⌜ now (nodes .exit) ≡ map (tabledNode (now (house .entry)) (now (guest .entry))) (now (nodes .entry)) ⌝ }
+{
+    for i in 0..nodes.len() {
+        let node = nodes[i];
+        nodes[i] = Node { place: numbered(node.place, house, guest), share: node.share, size: node.size };
+    }
 }
