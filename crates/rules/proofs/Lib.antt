@@ -1,1 +1,6 @@
 mod Ranges
+pub mod Same
+pub mod Good
+pub mod Laws
+pub mod Sheets
+pub mod Rows
