@@ -1,13 +1,12 @@
 -- What holds of every place of a rule sheet's game.
 use mathlib.Core.Path.{_≡_, refl, sym, ap, subst, _∙_}
 use mathlib.Core.Bool.{Bool, true, false, not, _&&_}
-use mathlib.Core.Logic.{_⊎_, inl, inr}
 use mathlib.Core.List.{List, [], _∷_}
-use Prim.Native.Nat.{ℕ, zero, suc, _+_, _*_, _-_, _/_, _%_, _≤_, _<_}
-use native.Mathlib.Nat.{mul-suc, mul-div-cancel, mul-assoc, mul-comm, mul-right-comm, mul-zero, zero-mul, mul-add, add-zero, mod-add-div', zero-add, suc-add, add-suc, suc-mul}
+use Prim.Native.Nat.{ℕ, zero, suc, _+_, _*_, _-_, _≤_, _<_}
+use native.Mathlib.Nat.{mul-suc, zero-mul, mul-add, zero-add, suc-mul}
 use native.Mathlib.Omega.{arith}
 use lib.Dec.{ltb, eqb}
-use lib.ListN.{length, getD, set, replicate}
+use lib.ListN.{length, getD, replicate}
 use Rattle.std.proofs.shelf.Tests.{both-ways}
 use Rattle.cards.specs.Game.{pick, total}
 use Rattle.std.specs.declared.option.Option.{Option}
@@ -17,9 +16,9 @@ use Rattle.rules.specs.declared.Player.the-variants.{House, Guest}
 use Rattle.rules.specs.declared.Bets.{Bets}
 use Rattle.rules.specs.declared.Sheet.{Sheet}
 use Rattle.rules.specs.declared.Ends.{Ends}
-use Rattle.rules.specs.Play.{other, check, bet, call, raise, Stand, opening, checked, facing, offers, Sight, Place, end, dealt, turn, Places, no-more, also, purse, Hand, sight, puts, acts, shows, due, won-by, split, higher, settled, by-choice, acting, after-bet, answers, free, final, round, left, each, deals, without, sits, second, first, game}
+use Rattle.rules.specs.Play.{other, check, bet, call, raise, Stand, opening, checked, facing, offers, Sight, Place, end, dealt, turn, Places, no-more, also, purse, Hand, sight, acts, shows, due, won-by, split, higher, settled, by-choice, acting, answers, free, final, round, left, each, deals, without, sits, second, first, game}
 use Rattle.rules.specs.Sights.{same-player}
-use Rattle.rules.specs.Memory.{Step, Phase, at, shut, moved, phase, actor, late, open-choices, past, offered, Dealable}
+use Rattle.rules.specs.Memory.{Step, Phase, at, moved, phase, actor, late, open-choices, past, offered}
 
 abbrev pub count : Places → ℕ
 count no-more = 0

@@ -1,24 +1,23 @@
 -- The laws of the tree of a rule sheet.
 use mathlib.Core.Path.{_≡_, refl, sym, ap, subst, _∙_}
-use mathlib.Core.Bool.{Bool, true, false, not, _&&_, _||_}
-use mathlib.Core.List.{List, [], _∷_, _++_}
-use Prim.Native.Nat.{ℕ, zero, suc, _+_, _*_, _/_, _%_, _≤_, _<_, max}
+use mathlib.Core.Bool.{Bool, true, false}
+use mathlib.Core.List.{List, [], _∷_}
+use Prim.Native.Nat.{ℕ, zero, suc, _+_, _*_, _/_, _%_, _≤_, _<_}
 use native.Mathlib.Nat.{mul-zero, mul-add, mul-right-comm, mul-div-cancel, mod-add-div', zero-add}
 use native.Mathlib.Omega.{arith}
-use lib.Dec.{ltb, eqb}
 use lib.ListN.{length, getD}
 use Rattle.std.proofs.shelf.Tests.{ne-eqb, and-from, or-from, or-left, or-right, not-from-false, both-ways}
-use Rattle.cards.specs.Game.{Tree, over, deal, ours, theirs, Trees, none, more, Plan, many, pick, total}
+use Rattle.cards.specs.Game.{Tree, over, deal, ours, Trees, none, more, Plan, many, pick, total}
 use Rattle.cards.specs.Promise.{Well, well-over, well-deal, well-ours, well-theirs, Wells, wells-none, wells-more, At-most, most-over, most-deal, most-ours, most-theirs, All-most, most-none, most-more, among, once, once-all, turned, turned-all}
 use Rattle.cards.specs.Played.{Move, Recalls, recalls-over, recalls-deal, recalls-ours, recalls-theirs, Recalls-all, recalls-none, recalls-more, Recalls-after, after-none, after-more}
 use Rattle.std.specs.declared.option.Option.{Option}
-use Rattle.std.specs.declared.option.Option.the-variants.{Some, None}
+use Rattle.std.specs.declared.option.Option.the-variants.{None}
 use Rattle.rules.specs.declared.Player.{Player}
 use Rattle.rules.specs.declared.Player.the-variants.{House, Guest}
 use Rattle.rules.specs.declared.Sheet.{Sheet}
 use Rattle.rules.specs.declared.Ends.{Ends}
-use Rattle.rules.specs.Play.{other, Stand, opening, checked, facing, offers, Sight, Place, end, dealt, turn, Places, no-more, also, purse, game}
-use Rattle.rules.specs.Sights.{same-player, same-sight, met, met-all, known, gather, sights, place, at-turn, weighed, weights, numbered, numbered-all, tree, words, words-all}
+use Rattle.rules.specs.Play.{other, opening, checked, facing, Sight, Place, end, dealt, turn, Places, no-more, also, purse, game}
+use Rattle.rules.specs.Sights.{same-player, met, met-all, known, sights, place, at-turn, weighed, numbered, numbered-all, tree, words, words-all}
 use Rattle.rules.specs.Memory.{Step, Phase, at, shut, phase, actor, late, open-choices, past, offered, moves, nobody, told, choices-of, Weighs, Dealable}
 use Rattle.rules.specs.Statements.{Weights-sum}
 use Rattle.rules.proofs.Good.{count, of, extend, Good, good-end, good-deal, good-turn, Goods, goods-none, goods-also, Chosen, chosen-none, chosen-also, Deals, game-good}

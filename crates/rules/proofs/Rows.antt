@@ -1,15 +1,15 @@
 -- Rows of the small game.
 use mathlib.Core.Path.{_≡_, refl, sym, _∙_}
-use mathlib.Core.Bool.{Bool, true, false}
+use mathlib.Core.Bool.{false}
 use mathlib.Core.List.{List, [], _∷_}
-use Prim.Native.Nat.{ℕ, zero, suc, _≤_, _<_}
+use Prim.Native.Nat.{ℕ, zero, suc, _<_}
 use native.Mathlib.Omega.{arith}
 use lib.ListN.{length}
 use Rattle.std.proofs.shelf.Tests.{both-ways}
-use Rattle.cards.specs.Game.{Plan, total}
+use Rattle.cards.specs.Game.{total}
 use Rattle.cards.specs.Floor.{after, next, nth}
 use Rattle.rules.specs.declared.Player.{Player}
-use Rattle.rules.specs.declared.Player.the-variants.{House, Guest}
+use Rattle.rules.specs.declared.Player.the-variants.{House}
 use Rattle.rules.specs.declared.Sheet.{Sheet}
 use Rattle.rules.specs.Memory.{Dealable}
 use Rattle.rules.specs.Statements.{choices, Plans, small, planned, two, Small-rows}

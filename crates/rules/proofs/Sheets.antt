@@ -1,9 +1,8 @@
 -- What holds of every rule sheet.
-use mathlib.Core.Path.{_≡_, refl}
-use mathlib.Core.Bool.{Bool, true, false}
-use mathlib.Core.List.{List, [], _∷_}
-use Prim.Native.Nat.{ℕ, zero, suc, _+_, _*_, _-_, _%_, _≤_, _<_}
-use native.Mathlib.Omega.{arith}
+use mathlib.Core.Path.{_≡_}
+use mathlib.Core.Bool.{true}
+use mathlib.Core.List.{List, []}
+use Prim.Native.Nat.{ℕ, _+_, _*_, _-_, _%_, _<_}
 use Rattle.cards.specs.Game.{Plan}
 use Rattle.cards.specs.Promise.{Well, Worst}
 use Rattle.cards.specs.Played.{Recalls}
@@ -13,12 +12,12 @@ use Rattle.rules.specs.declared.Player.{Player}
 use Rattle.rules.specs.declared.Player.the-variants.{House, Guest}
 use Rattle.rules.specs.declared.Sheet.{Sheet}
 use Rattle.rules.specs.declared.Ends.{Ends}
-use Rattle.rules.specs.Play.{other, Sight, Place, Places, game, purse}
-use Rattle.rules.specs.Sights.{sights, tree, words}
+use Rattle.rules.specs.Play.{other, Sight, Place, Places, game}
+use Rattle.rules.specs.Sights.{sights, words}
 use Rattle.rules.specs.Sound.{Sound}
 use Rattle.rules.specs.Memory.{Step, told, Dealable}
-use Rattle.rules.specs.Statements.{choices, Plans, seat, Stands, Sheets-stand, Has-end, here, past-deal, past-turn, Some-has-end, in-this, in-rest, Ends-sum}
-use Rattle.rules.proofs.Good.{Good, good-end, good-deal, good-turn, Goods, goods-none, goods-also, Chosen, chosen-none, chosen-also, Deals, game-good}
+use Rattle.rules.specs.Statements.{choices, Plans, seat, Sheets-stand, Has-end, here, past-deal, past-turn, Some-has-end, in-this, in-rest, Ends-sum}
+use Rattle.rules.proofs.Good.{Good, good-end, good-deal, good-turn, Goods, goods-none, goods-also, Chosen, chosen-none, chosen-also, game-good}
 use Rattle.rules.proofs.Laws.{tree-most, tree-once, tree-recalls, tree-fits, some-choices}
 
 module _ (s : Sheet) (m : ℕ) (d : Dealable s m) where

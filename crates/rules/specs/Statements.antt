@@ -1,6 +1,6 @@
 -- What holds of the game and the tree of every rule sheet. Each is a statement, a type whose proof is owed. Assumes nothing.
 use mathlib.Core.Path.{_≡_}
-use mathlib.Core.Bool.{Bool, true, false}
+use mathlib.Core.Bool.{true, false}
 use mathlib.Core.List.{List, [], _∷_}
 use Prim.Native.Nat.{ℕ, _+_, _*_, _%_, _<_}
 use lib.ListN.{getD}
@@ -13,7 +13,7 @@ use Rattle.rules.specs.declared.Player.the-variants.{House, Guest}
 use Rattle.rules.specs.declared.Bets.{Bets}
 use Rattle.rules.specs.declared.Sheet.{Sheet}
 use Rattle.rules.specs.declared.Ends.{Ends}
-use Rattle.rules.specs.Play.{other, Sight, Place, end, dealt, turn, Places, no-more, also, purse, game}
+use Rattle.rules.specs.Play.{other, Sight, Place, end, dealt, turn, Places, also, purse, game}
 use Rattle.rules.specs.Sights.{sights, weights, tree, words}
 use Rattle.rules.specs.Memory.{told, choices-of, Weighs, Dealable}
 
@@ -74,7 +74,7 @@ planned rows i = getD rows i []
 abbrev pub two : ℕ → ℕ → List ℕ
 two a b = a ∷ b ∷ []
 
--- a plan of the house in the small game, with 18 words and 4 of them a hand, and its worst
+-- a plan of the house in the small game, with words below 18 and 4 of them for a hand, and its worst
 abbrev pub Small-row : List (List ℕ) → ℕ → Type 0
 Small-row rows v = Worst 18 4 (planned rows) (choices small Guest) (tree small 18) v
 
