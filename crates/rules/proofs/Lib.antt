@@ -4,3 +4,5 @@ pub mod Good
 pub mod Laws
 pub mod Sheets
 pub mod Rows
+pub mod Walks
+mod Examples

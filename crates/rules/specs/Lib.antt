@@ -4,3 +4,4 @@ pub mod Play
 pub mod Sights
 pub mod Memory
 pub mod Statements
+pub mod Walk

@@ -3,6 +3,7 @@ ghost use mathlib.Core.Path.{_≡_};
 ghost use Rattle.rules.specs.Read.{read as readAs, ranged, numberOf, placeOf};
 ghost use Rattle.rules.specs.Sound.{Sound};
 ghost use Rattle.rules.specs.Statements.{Sheets-stand, Weights-sum, Ends-sum, Small-rows};
+ghost use Rattle.rules.specs.Walk.{Walk-numbers};
 ghost use Rattle.std.specs.Vec.{made};
 
 // The two players. The house is the table that plays by a plan.
@@ -148,6 +149,13 @@ pub fn ends_sum_stands() -> u8
 // Three plans of the small game, and their worsts.
 pub fn small_rows_stand() -> u8
     ensures { λ _. ⌜ Small-rows ⌝ }
+{
+    0
+}
+
+// Numbered while it is gone through, the game gives the tree.
+pub fn walk_numbers_stands() -> u8
+    ensures { λ _. ⌜ Walk-numbers ⌝ }
 {
     0
 }
