@@ -3,3 +3,5 @@ pub mod Sound
 pub mod Play
 pub mod Sights
 pub mod Memory
+pub mod Statements
+pub mod Walk

@@ -1,7 +1,9 @@
-// Rule sheets: nine bytes, read or refused.
+// Rule sheets: nine bytes, read or refused; and what holds of the game and the tree of every sheet, each as the contract of a function whose body only carries it.
 ghost use mathlib.Core.Path.{_≡_};
 ghost use Rattle.rules.specs.Read.{read as readAs, ranged, numberOf, placeOf};
 ghost use Rattle.rules.specs.Sound.{Sound};
+ghost use Rattle.rules.specs.Statements.{Sheets-stand, Weights-sum, Ends-sum, Small-rows};
+ghost use Rattle.rules.specs.Walk.{Walk-numbers};
 ghost use Rattle.std.specs.Vec.{made};
 
 // The two players. The house is the table that plays by a plan.
@@ -121,4 +123,39 @@ pub fn read(bytes: &[u8]) -> Result<Sheet, Refusal>
     let bets = Bets { ante, first, second };
     let begins = if begins == 0 { Player::House } else { Player::Guest };
     Ok(Sheet { ranks, copies, public: public == 1, bets, raises, begins, reserved })
+}
+
+// The tree of every sheet that can be dealt fits its plans at both chairs, and what is reckoned is the worst.
+pub fn sheets_stand() -> u8
+    ensures { λ _. ⌜ Sheets-stand ⌝ }
+{
+    0
+}
+
+// The weights of a deal sum to m.
+pub fn weights_sum_stands() -> u8
+    ensures { λ _. ⌜ Weights-sum ⌝ }
+{
+    0
+}
+
+// At every end the players have together what they sat down with.
+pub fn ends_sum_stands() -> u8
+    ensures { λ _. ⌜ Ends-sum ⌝ }
+{
+    0
+}
+
+// Three plans of the small game, and their worsts.
+pub fn small_rows_stand() -> u8
+    ensures { λ _. ⌜ Small-rows ⌝ }
+{
+    0
+}
+
+// Numbered while it is gone through, the game gives the tree.
+pub fn walk_numbers_stands() -> u8
+    ensures { λ _. ⌜ Walk-numbers ⌝ }
+{
+    0
 }
