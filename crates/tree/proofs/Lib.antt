@@ -8,3 +8,4 @@ mod Counts
 mod Equal
 mod Sees
 mod Tables
+mod Valid

@@ -3,3 +3,4 @@ pub mod Compact
 pub mod Flat
 pub mod Seen
 pub mod Slots
+pub mod Told
