@@ -9,3 +9,4 @@ mod Equal
 mod Sees
 mod Tables
 mod Valid
+mod Like
