@@ -10,3 +10,5 @@ mod Sees
 mod Tables
 mod Valid
 mod Like
+mod Numbers
+mod Reading
