@@ -3,3 +3,4 @@ pub mod Sound
 pub mod Play
 pub mod Sights
 pub mod Memory
+pub mod Counts

@@ -2,6 +2,7 @@
 ghost use mathlib.Core.Path.{_≡_};
 ghost use Rattle.rules.specs.Read.{read as readAs, ranged, numberOf, placeOf};
 ghost use Rattle.rules.specs.Sound.{Sound};
+ghost use Rattle.rules.specs.Counts.{Words-are};
 ghost use Rattle.std.specs.Vec.{made};
 
 // The two players. The house is the table that plays by a plan.
@@ -121,4 +122,11 @@ pub fn read(bytes: &[u8]) -> Result<Sheet, Refusal>
     let bets = Bets { ante, first, second };
     let begins = if begins == 0 { Player::House } else { Player::Guest };
     Ok(Sheet { ranks, copies, public: public == 1, bets, raises, begins, reserved })
+}
+
+// The words that the tree of a rule sheet needs at each chair.
+pub fn words_are_stands() -> u8
+    ensures { λ _. ⌜ Words-are ⌝ }
+{
+    0
 }
