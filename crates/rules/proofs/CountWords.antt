@@ -64,7 +64,7 @@ other-other House = refl
 other-other Guest = refl
 
 -- how often a player acts after a bet with x raises left, where it is its turn or not
-abbrev after : Bool → ℕ → ℕ
+abbrev pub after : Bool → ℕ → ℕ
 after mine x = pick mine ((x + 2) / 2) ((x + 1) / 2)
 
 -- a round adds the turns in it, whatever follows

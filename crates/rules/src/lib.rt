@@ -2,7 +2,7 @@
 ghost use mathlib.Core.Path.{_≡_};
 ghost use Rattle.rules.specs.Read.{read as readAs, ranged, numberOf, placeOf};
 ghost use Rattle.rules.specs.Sound.{Sound};
-ghost use Rattle.rules.specs.Counts.{Words-are};
+ghost use Rattle.rules.specs.Counts.{Words-are, Sights-are};
 ghost use Rattle.std.specs.Vec.{made};
 
 // The two players. The house is the table that plays by a plan.
@@ -127,6 +127,13 @@ pub fn read(bytes: &[u8]) -> Result<Sheet, Refusal>
 // The words that the tree of a rule sheet needs at each chair.
 pub fn words_are_stands() -> u8
     ensures { λ _. ⌜ Words-are ⌝ }
+{
+    0
+}
+
+// How many sights each player has.
+pub fn sights_are_stands() -> u8
+    ensures { λ _. ⌜ Sights-are ⌝ }
 {
     0
 }
