@@ -1,9 +1,8 @@
 -- Which ranks are left in a deck, and the lists spread over them. Assumes nothing.
 use mathlib.Core.Path.{_≡_, refl, ap, subst, _∙_}
-use mathlib.Core.Logic.{_⊎_, inl, inr}
+use mathlib.Core.Logic.{inl, inr}
 use mathlib.Core.List.{List, [], _∷_, _++_, List·Memᴰ·append-cases, Memᴰ·append-left, Memᴰ·append-right}
-use Prim.Native.Nat.{ℕ, zero, suc, _+_, _*_, _-_, _≤_, _<_}
-use native.Mathlib.Nat.{add-mul}
+use Prim.Native.Nat.{ℕ, zero, suc, _*_, _-_, _≤_, _<_}
 use native.Mathlib.Omega.{arith}
 use lib.Dec.{eqb}
 use lib.ListN.{length, length-append, getD, replicate}
@@ -97,7 +96,7 @@ module _ {A : Type 0} where
   spread-length [] f n same = omega arith
   spread-length (zero ∷ deck) f n same = spread-length deck (λ r. f (suc r)) n (λ r l. same (suc r) l)
   spread-length (suc c ∷ deck) f n same =
-      length-append (f 0) _ ∙ omega (arith, same 0 (omega arith), spread-length deck (λ r. f (suc r)) n (λ r l. same (suc r) l), add-mul 1 (length (left deck)) n)
+      length-append (f 0) _ ∙ omega (arith, same 0 (omega arith), spread-length deck (λ r. f (suc r)) n (λ r l. same (suc r) l))
 
   -- a list for each two cards and the deck without them
   abbrev pub pairs : List ℕ → (ℕ → ℕ → List ℕ → List A) → List A

@@ -1,10 +1,9 @@
 -- The sights of a player in one round of betting, as a list: how many they are, and that none comes twice. Assumes nothing.
 use mathlib.Core.Path.{_≡_, refl, sym, ap, subst, _∙_}
-use mathlib.Core.Logic.{_⊎_, inl, inr}
+use mathlib.Core.Logic.{inl, inr}
 use mathlib.Core.Bool.{Bool, true, false, not}
 use mathlib.Core.List.{List, [], _∷_, _++_, List·Memᴰ·head, List·Memᴰ·tail, List·Memᴰ·cases-cons, List·Memᴰ·append-cases, Memᴰ·append-left, Memᴰ·append-right}
 use Prim.Native.Nat.{ℕ, zero, suc, _+_, _*_, _≤_}
-use native.Mathlib.Nat.{add-mul}
 use native.Mathlib.Omega.{arith}
 use lib.ListN.{length, length-append}
 use Rattle.std.proofs.shelf.Lists.{append-nil}
@@ -108,8 +107,8 @@ module _ (a : ℕ) (c : Option ℕ) where
       answers-length (suc x) mine ks = fork-length mine ks (F (1 ∷ ks)) _ ∙ go mine _ (answers-length x (not mine) (2 ∷ ks))
         where
           go : (mine : Bool) (k : ℕ) → k ≡ after (not mine) x + (x + 1) * n → pick mine 1 0 + (length (F (1 ∷ ks)) + k) ≡ after mine (suc x) + (suc x + 1) * n
-          go true k e = omega (arith, same (1 ∷ ks), add-mul 1 (x + 1) n)
-          go false k e = omega (arith, same (1 ∷ ks), add-mul 1 (x + 1) n)
+          go true k e = omega (arith, same (1 ∷ ks))
+          go false k e = omega (arith, same (1 ∷ ks))
 
       pub round-length : (x : ℕ) (mine : Bool) (ks : List ℕ) → length (round-sights x mine ks) ≡ (x + 2) + (2 * x + 3) * n
       round-length x mine ks =
@@ -118,8 +117,8 @@ module _ (a : ℕ) (c : Option ℕ) where
         where
           go : (mine : Bool) (i j k : ℕ) {l : ℕ} → i ≡ n → j ≡ after (not (not mine)) x + (x + 1) * n → k ≡ after (not mine) x + (x + 1) * n → l ≡ pick (not mine) 1 0 + (i + j) →
               pick mine 1 0 + (l + k) ≡ (x + 2) + (2 * x + 3) * n
-          go true i j k e f g h = omega (arith, add-mul (x + 1) (x + 1) n, add-mul (2 * x + 2) 1 n)
-          go false i j k e f g h = omega (arith, add-mul (x + 1) (x + 1) n, add-mul (2 * x + 2) 1 n)
+          go true i j k e f g h = omega arith
+          go false i j k e f g h = omega arith
 
     -- what holds of each of them
     module _ (P : List ℕ → Sight → Type 0) (here : (ks : List ℕ) → P ks (seen ks)) (back : (k : ℕ) (ks : List ℕ) (z : Sight) → P (k ∷ ks) z → P ks z) (holds : (ks : List ℕ) (z : Sight) → In z (F ks) → P ks z) where

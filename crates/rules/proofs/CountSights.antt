@@ -2,8 +2,7 @@
 use mathlib.Core.Path.{_≡_, refl, sym, ap, subst, _∙_}
 use mathlib.Core.Bool.{Bool, true, false}
 use mathlib.Core.List.{List, [], _∷_, _++_}
-use Prim.Native.Nat.{ℕ, zero, suc, _+_, _*_, _-_, _<_, _≤_}
-use native.Mathlib.Nat.{add-zero, add-suc, suc-add}
+use Prim.Native.Nat.{ℕ, zero, suc, _+_, _*_, _-_, _≤_}
 use native.Mathlib.Omega.{arith}
 use lib.Dec.{eqb}
 use lib.ListN.{length, replicate}
@@ -13,15 +12,14 @@ use Rattle.std.specs.declared.option.Option.{Option}
 use Rattle.std.specs.declared.option.Option.the-variants.{Some, None}
 use Rattle.rules.specs.declared.Player.{Player}
 use Rattle.rules.specs.declared.Player.the-variants.{House, Guest}
-use Rattle.rules.specs.declared.Bets.{Bets}
 use Rattle.rules.specs.declared.Sheet.{Sheet}
 use Rattle.rules.specs.Sound.{Sound}
 use Rattle.rules.specs.Play.{purse, Sight, Place, Hand, each, deals, left, without, sits, final, second, first, shows, game}
-use Rattle.rules.specs.Sights.{same-player, met, met-all, sights}
+use Rattle.rules.specs.Sights.{same-player, met, met-all}
 use Rattle.rules.specs.Counts.{sight-count, Sights-are}
 use Rattle.rules.proofs.CountWords.{without-total, replicate-total}
 use Rattle.rules.proofs.CountLists.{In, Apart, sights-length}
-use Rattle.rules.proofs.CountDecks.{Left, some-left, left-before, left-swap, without-swap, left-full, left-less, spread, spread-in, spread-from, spread-apart, spread-length, pairs, pairs-in, pairs-from, pairs-swap}
+use Rattle.rules.proofs.CountDecks.{Left, some-left, left-before, left-swap, left-full, left-less, spread, spread-in, spread-from, spread-apart, spread-length, pairs, pairs-in, pairs-from, pairs-swap}
 use Rattle.rules.proofs.CountRounds.{After, round-sights, round-length, round-each, round-behind, round-apart, round-more, round-met}
 
 each-met : (w : Player) (r : ℕ) (deck : List ℕ) (then : ℕ → Place) (f : ℕ → List Sight) → ((q : ℕ) → met w (then (r + q)) ≡ f q) → met-all w (each r deck then) ≡ spread deck f

@@ -1,20 +1,18 @@
 -- How many words the tree of a rule sheet needs. Assumes nothing.
-use mathlib.Core.Path.{_≡_, refl, sym, ap, _∙_}
+use mathlib.Core.Path.{_≡_, refl, ap, _∙_}
 use mathlib.Core.Bool.{Bool, true, false, not}
 use mathlib.Core.List.{List, [], _∷_}
-use Prim.Native.Nat.{ℕ, zero, suc, _+_, _*_, _-_, _/_, _≤_, _<_, max}
-use native.Mathlib.Nat.{add-mul}
+use Prim.Native.Nat.{ℕ, zero, suc, _+_, _*_, _/_, _≤_, _<_, max}
 use native.Mathlib.Omega.{arith}
-use lib.ListN.{getD, replicate}
-use Rattle.cards.specs.Game.{Tree, Trees, pick, total}
+use lib.ListN.{replicate}
+use Rattle.cards.specs.Game.{pick, total}
 use Rattle.cards.specs.Promise.{turned, turned-all}
 use Rattle.rules.specs.declared.Player.{Player}
 use Rattle.rules.specs.declared.Player.the-variants.{House, Guest}
-use Rattle.rules.specs.declared.Bets.{Bets}
 use Rattle.rules.specs.declared.Sheet.{Sheet}
 use Rattle.rules.specs.Sound.{Sound}
 use Rattle.rules.specs.Play.{other, purse, Sight, Place, end, dealt, turn, Places, no-more, also, Hand, answers, round, each, deals, without, sits, final, second, first, shows, game}
-use Rattle.rules.specs.Sights.{same-player, sights, numbered, numbered-all, tree, words, words-all}
+use Rattle.rules.specs.Sights.{same-player, numbered, numbered-all, words, words-all}
 use Rattle.rules.specs.Counts.{turns, word-count, Words-are}
 
 -- the largest number of deals and choices of player w on a way
@@ -114,7 +112,7 @@ without-total (suc r) (c ∷ deck) = let h = without-total r deck in omega arith
 pub replicate-total : (n c : ℕ) → total (replicate n c) ≡ n * c
 unfolding total
 replicate-total zero c = omega arith
-replicate-total (suc n) c = let e = replicate-total n c in omega (arith, add-mul 1 n c)
+replicate-total (suc n) c = let e = replicate-total n c in omega arith
 
 module _ (s : Sheet) (w : Player) where
   second-deep : (deck : List ℕ) → 0 < total deck → (h : Hand) → deep w (second s deck h) ≡ suc (turns s w)
