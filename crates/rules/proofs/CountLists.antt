@@ -26,9 +26,10 @@ Apart (x ∷ xs) = (In x xs → ⊥) × Apart xs
 module _ {A : Type 0} where
   pub apart-append : (xs ys : List A) → Apart xs → Apart ys → ((z : A) → In z xs → In z ys → ⊥) → Apart (xs ++ ys)
   apart-append [] ys a b d = b
-  apart-append (x ∷ xs) ys a b d =
-      (λ q. elim (List·Memᴰ·append-cases xs q) [ inl l ↦ a .0 l | inr r ↦ d x (List·Memᴰ·head refl) r ],
-       apart-append xs ys (a .1) b (λ z l r. d z (List·Memᴰ·tail l) r))
+  apart-append (x ∷ xs) ys a b d = (
+    λ q. elim (List·Memᴰ·append-cases xs q) [ inl l ↦ a .0 l | inr r ↦ d x (List·Memᴰ·head refl) r ],
+    apart-append xs ys (a .1) b (λ z l r. d z (List·Memᴰ·tail l) r),
+  )
 
   -- a list without one of its elements
   cut : {z : A} {ys : List A} → In z ys → List A
@@ -100,10 +101,11 @@ in-known (List·Memᴰ·tail q) = or-right _ _ (in-known q)
 note-by : (b : Bool) (s : Sight) (l : List Sight) → known s l ≡ b →
     (Apart l → Apart (pick b l (l ++ (s ∷ [])))) × ((z : Sight) → In z (pick b l (l ++ (s ∷ []))) → In z l ⊎ (z ≡ s)) × ((z : Sight) → In z l ⊎ (z ≡ s) → In z (pick b l (l ++ (s ∷ []))))
 note-by true s l e = (λ a. a, λ z q. inl q, λ z. elim [ inl q ↦ q | inr f ↦ Memᴰ·cast f (known-in s l e) ])
-note-by false s l e =
-    (λ a. apart-append l (s ∷ []) a (λ q. elim q [ ], tt) (λ z p q. elim (List·Memᴰ·cases-cons q) [ inl f ↦ both-ways (known s l) e (in-known (Memᴰ·cast (sym f) p)) | inr r ↦ elim r [ ] ]),
-     λ z q. elim (List·Memᴰ·append-cases l q) [ inl p ↦ inl p | inr p ↦ elim (List·Memᴰ·cases-cons p) [ inl f ↦ inr f | inr r ↦ elim r [ ] ] ],
-     λ z. elim [ inl q ↦ Memᴰ·append-left (s ∷ []) q | inr f ↦ Memᴰ·append-right l (List·Memᴰ·head f) ])
+note-by false s l e = (
+  λ a. apart-append l (s ∷ []) a (λ q. elim q [ ], tt) (λ z p q. elim (List·Memᴰ·cases-cons q) [ inl f ↦ both-ways (known s l) e (in-known (Memᴰ·cast (sym f) p)) | inr r ↦ elim r [ ] ]),
+  λ z q. elim (List·Memᴰ·append-cases l q) [ inl p ↦ inl p | inr p ↦ elim (List·Memᴰ·cases-cons p) [ inl f ↦ inr f | inr r ↦ elim r [ ] ] ],
+  λ z. elim [ inl q ↦ Memᴰ·append-left (s ∷ []) q | inr f ↦ Memᴰ·append-right l (List·Memᴰ·head f) ],
+)
 
 gather-apart : (l ss : List Sight) → Apart l → Apart (gather l ss)
 gather-apart l [] a = a

@@ -190,5 +190,5 @@ module _ (a : ℕ) (c : Option ℕ) where
     pub round-met : (x : ℕ) (v : Player) (h : Hand) → h .rank w ≡ a → h .public ≡ c → met w (round t b then x v h) ≡ round-sights F x (same-player w v) (h .choices)
     round-met x v h e f =
         fork-met w v h (checked-sights F x (not (same-player w v)) (0 ∷ h .choices)) (answers-sights F x (not (same-player w v)) (1 ∷ h .choices)) _ e f (joined
-          (checked-met x (other v) (acts v check 0 h) e f ∙ ap (λ mine. checked-sights F x mine (0 ∷ h .choices)) (other-turn w v))
-          (answers-met x (other v) (acts v bet b h) e f ∙ ap (λ mine. answers-sights F x mine (1 ∷ h .choices)) (other-turn w v)))
+        (checked-met x (other v) (acts v check 0 h) e f ∙ ap (λ mine. checked-sights F x mine (0 ∷ h .choices)) (other-turn w v))
+        (answers-met x (other v) (acts v bet b h) e f ∙ ap (λ mine. answers-sights F x mine (1 ∷ h .choices)) (other-turn w v)))

@@ -148,7 +148,7 @@ module _ (s : Sheet) (w : Player) where
   all-length : Sound s → length all-sights ≡ sight-count s
   all-length ok =
       spread-length deck _ _ (λ a l. view-length (s .raises) mine a (s .public) (without a deck)
-        ∙ ap (λ n. (s .raises + 2) + (2 * s .raises + 3) * pick (s .public) (n * (s .raises + 2)) 0) (left-less (s .ranks) a (s .copies) (ok .copies .least) l))
+      ∙ ap (λ n. (s .raises + 2) + (2 * s .raises + 3) * pick (s .public) (n * (s .raises + 2)) 0) (left-less (s .ranks) a (s .copies) (ok .copies .least) l))
       ∙ ap (λ n. n * ((s .raises + 2) + (2 * s .raises + 3) * pick (s .public) ((s .ranks - pick (eqb (s .copies) 1) 1 0) * (s .raises + 2)) 0)) (left-full (s .ranks) (s .copies) (ok .copies .least))
       ∙ product (s .public) (s .ranks) (s .raises + 2) (2 * s .raises + 3) (s .ranks - pick (eqb (s .copies) 1) 1 0)
     where

@@ -131,9 +131,9 @@ module _ (s : Sheet) (w : Player) where
       let e = replicate-total (s .ranks) (s .copies) in
       let n = turns s w + pick (s .public) (suc (turns s w)) 0 in
       let for-guest : (a b : ℕ) → deep w (first s (without b (without a D)) (sits (s .bets .ante) a b)) ≡ n =
-        λ a b. first-deep (without b (without a D)) (λ q. omega (arith, ok .shown q, without-total a D, without-total b (without a D))) (sits (s .bets .ante) a b) in
+      λ a b. first-deep (without b (without a D)) (λ q. omega (arith, ok .shown q, without-total a D, without-total b (without a D))) (sits (s .bets .ante) a b) in
       let for-house : (a : ℕ) → deep w (deals (without a D) (λ b. first s (without b (without a D)) (sits (s .bets .ante) a b))) ≡ suc n =
-        λ a. ap suc (each-deep w n 0 (without a D) _ (for-guest a) (omega (arith, without-total a D))) in
+      λ a. ap suc (each-deep w n 0 (without a D) _ (for-guest a) (omega (arith, without-total a D))) in
       ap suc (each-deep w (suc n) 0 D _ for-house (omega arith)) ∙ ends (s .public)
     where
       ends : (p : Bool) → suc (suc (turns s w + pick p (suc (turns s w)) 0)) ≡ 2 + turns s w + pick p (1 + turns s w) 0
