@@ -5,3 +5,4 @@ pub mod Sights
 pub mod Memory
 pub mod Statements
 pub mod Walk
+pub mod Counts

@@ -67,6 +67,17 @@ mutual
     no-more : Places
     also : Place → Places → Places
 
+-- how many places there are
+abbrev mutual
+  pub count : Place → ℕ
+  count (end e) = 1
+  count (dealt cs ps) = suc (count-all ps)
+  count (turn w s ps) = suc (count-all ps)
+
+  pub count-all : Places → ℕ
+  count-all no-more = 0
+  count-all (also p ps) = count p + count-all ps
+
 -- a hand in play: the ranks of the players, what they put in, the public card and the choices so far
 pub record Hand : Type 0 where
   pub rank : Player → ℕ

@@ -4,6 +4,7 @@ ghost use Rattle.rules.specs.Read.{read as readAs, ranged, numberOf, placeOf};
 ghost use Rattle.rules.specs.Sound.{Sound};
 ghost use Rattle.rules.specs.Statements.{Sheets-stand, Weights-sum, Ends-sum, Small-rows};
 ghost use Rattle.rules.specs.Walk.{Walk-numbers};
+ghost use Rattle.rules.specs.Counts.{Words-are, Sights-are};
 ghost use Rattle.std.specs.Vec.{made};
 
 // The two players. The house is the table that plays by a plan.
@@ -132,6 +133,13 @@ pub fn sheets_stand() -> u8
     0
 }
 
+// The words that the tree of a rule sheet needs at each chair.
+pub fn words_are_stands() -> u8
+    ensures { λ _. ⌜ Words-are ⌝ }
+{
+    0
+}
+
 // The weights of a deal sum to m.
 pub fn weights_sum_stands() -> u8
     ensures { λ _. ⌜ Weights-sum ⌝ }
@@ -156,6 +164,13 @@ pub fn small_rows_stand() -> u8
 // Numbered while it is gone through, the game gives the tree.
 pub fn walk_numbers_stands() -> u8
     ensures { λ _. ⌜ Walk-numbers ⌝ }
+{
+    0
+}
+
+// How many sights each player has.
+pub fn sights_are_stands() -> u8
+    ensures { λ _. ⌜ Sights-are ⌝ }
 {
     0
 }
