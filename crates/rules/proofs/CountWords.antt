@@ -57,6 +57,10 @@ other-turn House Guest = refl
 other-turn Guest House = refl
 other-turn Guest Guest = refl
 
+other-other : (v : Player) → other (other v) ≡ v
+other-other House = refl
+other-other Guest = refl
+
 -- how often a player acts after a bet with x raises left, where it is its turn or not
 abbrev pub after : Bool → ℕ → ℕ
 after mine x = pick mine ((x + 2) / 2) ((x + 1) / 2)

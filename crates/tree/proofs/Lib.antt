@@ -12,3 +12,4 @@ mod Valid
 mod Like
 mod Numbers
 mod Reading
+mod Measures

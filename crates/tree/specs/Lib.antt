@@ -4,3 +4,4 @@ pub mod Flat
 pub mod Seen
 pub mod Slots
 pub mod Told
+pub mod Built

@@ -11,6 +11,9 @@ ghost use Rattle.tree.specs.Rep.{nodeAt};
 ghost use Rattle.tree.specs.Flat.{Written, Fair, secondCard, guestCard, betSize, firstSize, seat, unnumbered, Noted};
 ghost use Rattle.tree.specs.Seen.{seenAt, seenIn, noted};
 ghost use Rattle.tree.specs.Slots.{slotOf, Ranged, Tabled, tabledPlace, tabledNode, Slotted};
+ghost use Rattle.rules.specs.Sights.{same-player};
+ghost use Rattle.rules.specs.Counts.{sight-count, word-count};
+ghost use Rattle.tree.specs.Built.{numberOf, refusedAt, sizesOf, Measured};
 use rules::Ends;
 use rules::Player;
 use rules::Sheet;
@@ -575,4 +578,99 @@ fn number(nodes: &mut [Node], house: &[u32], guest: &[u32])
         let node = nodes[i];
         nodes[i] = Node { place: numbered(node.place, house, guest), share: node.share, size: node.size };
     }
+}
+
+// For a chair: the sights of its player, and the words of a hand that is played from it.
+#[derive(Clone, Copy)]
+pub struct Chair {
+    pub sights: u32,
+    pub words: u32,
+}
+
+// How large a tree is, and how many tokens are on the table.
+#[derive(Clone, Copy)]
+pub struct Sizes {
+    pub places: u32,
+    pub house: Chair,
+    pub guest: Chair,
+    pub table: u32,
+}
+
+// Why a tree is not written.
+#[derive(Clone, Copy)]
+pub enum Refusal {
+    // the memory for the tree is too short
+    NoRoom,
+    // the memory for the sights is too short
+    NoSightRoom,
+    // there are more than 65,536 places
+    TooLarge,
+}
+
+impl Refusal {
+    // The number of the refusal in the list of refusals.
+    pub fn number(self) -> u8
+        ensures { λ r. ⌜ r ≡ numberOf self ⌝ }
+    {
+        match self {
+            Refusal::NoRoom | Refusal::NoSightRoom => 13,
+            Refusal::TooLarge => 3,
+        }
+    }
+
+    // The place that the list gives for it.
+    pub fn place(self) -> usize
+        ensures { λ r. ⌜ r ≡ refusedAt self ⌝ }
+    {
+        match self {
+            Refusal::NoRoom | Refusal::TooLarge => 0,
+            Refusal::NoSightRoom => 1,
+        }
+    }
+}
+
+// How many sights each player has.
+fn sight_count(sheet: Sheet) -> u32
+    requires { ⌜ Sound sheet ⌝ }
+    ensures { λ r. ⌜ r ≡ sight-count sheet ⌝ }
+{
+    let ranks = sheet.ranks as u32;
+    let raises = sheet.raises as u32;
+    let shown = if sheet.copies == 1 { ranks - 1 } else { ranks };
+    let second = if sheet.public { (2 * raises + 3) * shown } else { 0 };
+    ranks * (raises + 2) * (1 + second)
+}
+
+// Whether two players are one.
+fn same_player(a: Player, b: Player) -> bool
+    ensures { λ r. ⌜ r ≡ same-player a b ⌝ }
+{
+    match (a, b) {
+        (Player::House, Player::House) => true,
+        (Player::House, Player::Guest) => false,
+        (Player::Guest, Player::House) => false,
+        (Player::Guest, Player::Guest) => true,
+    }
+}
+
+// How many words a hand has that is played from this player's chair.
+fn word_count(sheet: Sheet, who: Player) -> u32
+    requires { ⌜ Sound sheet ⌝ }
+    ensures { λ r. ⌜ r ≡ word-count sheet who ⌝ }
+{
+    let raises = sheet.raises as u32;
+    let turns = if same_player(who, sheet.begins) { (raises + 4) / 2 } else { (raises + 3) / 2 };
+    2 + turns + if sheet.public { 1 + turns } else { 0 }
+}
+
+// How large the tree of a rule sheet is.
+pub fn measure(sheet: Sheet) -> Sizes
+    requires { ⌜ Sound sheet ⌝ }
+    ensures value { λ r. ⌜ r ≡ sizesOf sheet ⌝ }
+    ensures tree { λ r. ⌜ Measured sheet r ⌝ }
+{
+    let sights = sight_count(sheet);
+    let house = Chair { sights, words: word_count(sheet, Player::House) };
+    let guest = Chair { sights, words: word_count(sheet, Player::Guest) };
+    Sizes { places: count(sheet), house, guest, table: 2 * purse(sheet) }
 }
