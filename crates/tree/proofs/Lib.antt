@@ -13,3 +13,4 @@ mod Like
 mod Numbers
 mod Reading
 mod Measures
+mod Indexes

@@ -2,7 +2,7 @@
 use mathlib.Core.Path.{_≡_}
 use mathlib.Core.Bool.{Bool, true, false}
 use mathlib.Core.List.{List, [], _∷_, _++_}
-use Prim.Native.Nat.{ℕ, zero, suc, _+_, _*_, _-_, _<_}
+use Prim.Native.Nat.{ℕ, zero, suc, _+_, _*_, _-_, _≤_, _<_}
 use lib.ListN.{getD, length}
 use Rattle.cards.specs.Game.{pick}
 use Rattle.std.specs.declared.option.Option.{Option}
@@ -14,7 +14,7 @@ use Rattle.tree.specs.declared.Sight.{Sight}
 use Rattle.tree.specs.declared.Place.{Place}
 use Rattle.tree.specs.declared.Place.the-variants.{Over, Deal, House, Guest}
 use Rattle.tree.specs.declared.Node.{Node}
-use Rattle.tree.specs.Seen.{known, placeOf, seenAt}
+use Rattle.tree.specs.Seen.{known, placeOf, seenAt, seenIn, noted}
 use Rattle.tree.specs.Rep.{node, nodeAt}
 
 abbrev pub publicSlot : Option ℕ → ℕ
@@ -66,3 +66,9 @@ module _ (house guest : List ℕ) where
   Slotted (Deal n) = Unit {0}
   Slotted (House z i) = slotOf z < length house
   Slotted (Guest z i) = slotOf z < length guest
+
+-- the sights of player w in the row fit the memory for them, and an empty table has a slot for each
+pub record Ready (ns : List Node) (w : Player) (room : ℕ) (table : List ℕ) : Type 0 where
+  pub room-is : length (noted [] (seenIn w ns)) ≤ room
+  pub ranged : Ranged (length table) w ns
+  pub zeros : (k : ℕ) → getD table k 0 ≡ 0

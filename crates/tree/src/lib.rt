@@ -9,11 +9,12 @@ ghost use Rattle.tree.specs.declared.Hand.{Hand};
 ghost use Rattle.tree.specs.Compact.{Play, end, size, wonBy, actedAs, dueOf, answersAs, opensAs, roundAs, dealsAs, lineAs, sightOf, settledAs, shows, shownAs, secondAs, sits, firstAs, gameAs};
 ghost use Rattle.tree.specs.Rep.{nodeAt};
 ghost use Rattle.tree.specs.Flat.{Written, Fair, secondCard, guestCard, betSize, firstSize, seat, unnumbered, Noted};
-ghost use Rattle.tree.specs.Seen.{seenAt, seenIn, noted};
-ghost use Rattle.tree.specs.Slots.{slotOf, Ranged, Tabled, tabledPlace, tabledNode, Slotted};
+ghost use Rattle.tree.specs.Seen.{seenAt, seenIn, noted, numberedNode};
+ghost use Rattle.tree.specs.Slots.{slotOf, Ranged, Tabled, tabledPlace, tabledNode, Slotted, Ready};
 ghost use Rattle.rules.specs.Sights.{same-player};
 ghost use Rattle.rules.specs.Counts.{sight-count, word-count};
-ghost use Rattle.tree.specs.Built.{numberOf, refusedAt, sizesOf, Measured};
+ghost use Rattle.tree.specs.Built.{numberOf, refusedAt, sizesOf, Measured, Begins};
+ghost use Rattle.rules.specs.declared.Player.the-variants.{House, Guest};
 use rules::Ends;
 use rules::Player;
 use rules::Sheet;
@@ -578,6 +579,20 @@ fn number(nodes: &mut [Node], house: &[u32], guest: &[u32])
         let node = nodes[i];
         nodes[i] = Node { place: numbered(node.place, house, guest), share: node.share, size: node.size };
     }
+}
+
+// Notes and numbers the sights of both players, by a table for each that begins with zeros.
+fn index(nodes: &mut [Node], house: &mut [Sight], guest: &mut [Sight], ours: &mut [u32], theirs: &mut [u32])
+    requires few { ⌜ length (now nodes) ≤ 65536 ⌝ }
+    requires ours { ⌜ Ready (now nodes) House (length (now house)) (now ours) ⌝ }
+    requires theirs { ⌜ Ready (now nodes) Guest (length (now guest)) (now theirs) ⌝ }
+    ensures nodes { λ _. ⌜ now (nodes .exit) ≡ map (numberedNode (noted [] (seenIn House (now (nodes .entry)))) (noted [] (seenIn Guest (now (nodes .entry))))) (now (nodes .entry)) ⌝ }
+    ensures house { λ _. ⌜ Begins (noted [] (seenIn House (now (nodes .entry)))) (now (house .entry)) (now (house .exit)) ⌝ }
+    ensures guest { λ _. ⌜ Begins (noted [] (seenIn Guest (now (nodes .entry)))) (now (guest .entry)) (now (guest .exit)) ⌝ }
+{
+    let hs = collect(nodes, Player::House, house, ours);
+    let gs = collect(nodes, Player::Guest, guest, theirs);
+    number(nodes, ours, theirs);
 }
 
 // For a chair: the sights of its player, and the words of a hand that is played from it.
