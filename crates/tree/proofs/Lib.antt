@@ -14,3 +14,4 @@ mod Numbers
 mod Reading
 mod Measures
 mod Indexes
+mod Fills

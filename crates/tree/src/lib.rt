@@ -3,17 +3,17 @@ ghost use mathlib.Core.Path.{_≡_};
 ghost use mathlib.Core.List.{List, [], map};
 ghost use Prim.Native.Nat.{ℕ, _+_, _*_, _-_, _≤_, _<_};
 ghost use lib.ListN.{length, take, getD};
-ghost use Rattle.rules.specs.Play.{other as otherOf, purse as purseOf, left as leftOf, without};
+ghost use Rattle.rules.specs.Play.{game, count as countOf, other as otherOf, purse as purseOf, left as leftOf, without};
 ghost use Rattle.rules.specs.Sound.{Sound};
 ghost use Rattle.tree.specs.declared.Hand.{Hand};
 ghost use Rattle.tree.specs.Compact.{Play, end, size, wonBy, actedAs, dueOf, answersAs, opensAs, roundAs, dealsAs, lineAs, sightOf, settledAs, shows, shownAs, secondAs, sits, firstAs, gameAs};
 ghost use Rattle.tree.specs.Rep.{nodeAt};
 ghost use Rattle.tree.specs.Flat.{Written, Fair, secondCard, guestCard, betSize, firstSize, seat, unnumbered, Noted};
-ghost use Rattle.tree.specs.Seen.{seenAt, seenIn, noted, numberedNode};
+ghost use Rattle.tree.specs.Seen.{seenAt, seenIn, noted, numberedNode, sightsOf};
 ghost use Rattle.tree.specs.Slots.{slotOf, Ranged, Tabled, tabledPlace, tabledNode, Slotted, Ready};
-ghost use Rattle.rules.specs.Sights.{same-player};
+ghost use Rattle.rules.specs.Sights.{same-player, sights};
 ghost use Rattle.rules.specs.Counts.{sight-count, word-count};
-ghost use Rattle.tree.specs.Built.{numberOf, refusedAt, sizesOf, Measured, Begins};
+ghost use Rattle.tree.specs.Built.{numberOf, refusedAt, sizesOf, Measured, Begins, nodesOf};
 ghost use Rattle.rules.specs.declared.Player.the-variants.{House, Guest};
 use rules::Ends;
 use rules::Player;
@@ -593,6 +593,33 @@ fn index(nodes: &mut [Node], house: &mut [Sight], guest: &mut [Sight], ours: &mu
     let hs = collect(nodes, Player::House, house, ours);
     let gs = collect(nodes, Player::Guest, guest, theirs);
     number(nodes, ours, theirs);
+}
+
+// The slots of all sights, and of those of a first round.
+const SLOTS: usize = 40950;
+const FIRST_SLOTS: usize = 195;
+
+// Writes the tree and its sights into memory of its size.
+fn fill(sheet: Sheet, nodes: &mut [Node], house: &mut [Sight], guest: &mut [Sight])
+    requires sound { ⌜ Sound sheet ⌝ }
+    requires exact { ⌜ length (now nodes) ≡ countOf (game sheet) ⌝ }
+    requires few { ⌜ length (now nodes) ≤ 65536 ⌝ }
+    requires house { ⌜ length (sights House (game sheet)) ≤ length (now house) ⌝ }
+    requires guest { ⌜ length (sights Guest (game sheet)) ≤ length (now guest) ⌝ }
+    ensures nodes { λ _. ⌜ now (nodes .exit) ≡ nodesOf sheet ⌝ }
+    ensures house { λ _. ⌜ Begins (sightsOf House (gameAs sheet)) (now (house .entry)) (now (house .exit)) ⌝ }
+    ensures guest { λ _. ⌜ Begins (sightsOf Guest (gameAs sheet)) (now (guest .entry)) (now (guest .exit)) ⌝ }
+{
+    let _ = written(sheet, nodes);
+    if sheet.public {
+        let mut ours = [0u32; SLOTS];
+        let mut theirs = [0u32; SLOTS];
+        index(nodes, house, guest, &mut ours, &mut theirs);
+    } else {
+        let mut ours = [0u32; FIRST_SLOTS];
+        let mut theirs = [0u32; FIRST_SLOTS];
+        index(nodes, house, guest, &mut ours, &mut theirs);
+    }
 }
 
 // For a chair: the sights of its player, and the words of a hand that is played from it.
