@@ -15,3 +15,4 @@ mod Reading
 mod Measures
 mod Indexes
 mod Fills
+mod Builds

@@ -13,7 +13,7 @@ ghost use Rattle.tree.specs.Seen.{seenAt, seenIn, noted, numberedNode, sightsO
 ghost use Rattle.tree.specs.Slots.{slotOf, Ranged, Tabled, tabledPlace, tabledNode, Slotted, Ready};
 ghost use Rattle.rules.specs.Sights.{same-player, sights};
 ghost use Rattle.rules.specs.Counts.{sight-count, word-count};
-ghost use Rattle.tree.specs.Built.{numberOf, refusedAt, sizesOf, Measured, Begins, nodesOf};
+ghost use Rattle.tree.specs.Built.{numberOf, refusedAt, atMost, admitted, sizesOf, Measured, Memory, Begins, nodesOf};
 ghost use Rattle.rules.specs.declared.Player.the-variants.{House, Guest};
 use rules::Ends;
 use rules::Player;
@@ -715,4 +715,42 @@ pub fn measure(sheet: Sheet) -> Sizes
     let house = Chair { sights, words: word_count(sheet, Player::House) };
     let guest = Chair { sights, words: word_count(sheet, Player::Guest) };
     Sizes { places: count(sheet), house, guest, table: 2 * purse(sheet) }
+}
+
+// The number, where it is at most so much.
+fn at_most(n: u32, most: usize) -> Option<u32>
+    ensures { λ r. ⌜ r ≡ atMost n most ⌝ }
+{
+    if n as usize <= most { Some(n) } else { None }
+}
+
+// The sizes, where places and sights fit the memory and there are not too many places.
+pub fn admit(sizes: Sizes, nodes: usize, house: usize, guest: usize) -> Result<Sizes, Refusal>
+    ensures { λ r. ⌜ r ≡ admitted sizes nodes house guest ⌝ }
+{
+    let Some(_) = at_most(sizes.places, nodes) else {
+        return Err(Refusal::NoRoom);
+    };
+    let Some(_) = at_most(sizes.house.sights, house) else {
+        return Err(Refusal::NoSightRoom);
+    };
+    let Some(_) = at_most(sizes.guest.sights, guest) else {
+        return Err(Refusal::NoSightRoom);
+    };
+    let Some(_) = at_most(sizes.places, 65536) else {
+        return Err(Refusal::TooLarge);
+    };
+    Ok(sizes)
+}
+
+// Writes the tree of a rule sheet and the sights of each player, or refuses and touches nothing.
+pub fn build(sheet: Sheet, nodes: &mut [Node], house: &mut [Sight], guest: &mut [Sight]) -> Result<Sizes, Refusal>
+    requires { ⌜ Sound sheet ⌝ }
+    ensures answer { λ r. ⌜ r ≡ admitted (sizesOf sheet) (length (now (nodes .entry))) (length (now (house .entry))) (length (now (guest .entry))) ⌝ }
+    ensures memory { λ r. ⌜ Memory sheet r (now (nodes .entry)) (now (nodes .exit)) (now (house .entry)) (now (house .exit)) (now (guest .entry)) (now (guest .exit)) ⌝ }
+    ensures tree { λ _. ⌜ Measured sheet (sizesOf sheet) ⌝ }
+{
+    let sizes = admit(measure(sheet), nodes.len(), house.len(), guest.len())?;
+    fill(sheet, &mut nodes[0..sizes.places as usize], house, guest);
+    Ok(sizes)
 }
