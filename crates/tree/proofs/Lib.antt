@@ -16,3 +16,4 @@ mod Measures
 mod Indexes
 mod Fills
 mod Builds
+mod Choices

@@ -1,6 +1,9 @@
 -- What a stored sight tells: its rank, the public rank and all choices so far. Assumes nothing: these are definitions.
 use mathlib.Core.List.{List, [], _∷_, _++_}
+use mathlib.Core.Bool.{Bool, _&&_}
 use Prim.Native.Nat.{ℕ, zero, suc}
+use lib.Dec.{ltb, leb}
+use Rattle.cards.specs.Game.{pick}
 use Rattle.std.specs.declared.option.Option.{Option}
 use Rattle.std.specs.declared.option.Option.the-variants.{Some, None}
 use Rattle.rules.specs.Play.{check, bet, call, raise}
@@ -39,3 +42,21 @@ choicesOf h = choices-in (h .public) (h .first) (h .second)
 
 abbrev pub told : Sight → R.Sight
 told z = record { own = z .own; public = z .history .public; choices = choicesOf (z .history) }
+
+-- a choice, counted back from the last one
+abbrev pub nth : List ℕ → ℕ → Option ℕ
+nth [] i = None
+nth (k ∷ ks) zero = Some k
+nth (k ∷ ks) (suc i) = nth ks i
+
+-- the line of the round that goes on
+abbrev pub line-now : Option ℕ → Line → Line → Line
+line-now None f s = f
+line-now (Some r) f s = s
+
+-- how many choices the player has who sees this, where x raises may be made in a round: three to a bet while fewer than x raises were made, else two
+abbrev pub offered-by : ℕ → ℕ → ℕ
+offered-by x bets = pick (ltb 0 bets && leb bets x) 3 2
+
+abbrev pub offersOf : ℕ → Sight → ℕ
+offersOf x z = offered-by x (line-now (z .history .public) (z .history .first) (z .history .second) .bets)

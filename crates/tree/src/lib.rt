@@ -13,6 +13,7 @@ ghost use Rattle.tree.specs.Seen.{seenAt, seenIn, noted, numberedNode, sightsO
 ghost use Rattle.tree.specs.Slots.{slotOf, Ranged, Tabled, tabledPlace, tabledNode, Slotted, Ready};
 ghost use Rattle.rules.specs.Sights.{same-player, sights};
 ghost use Rattle.rules.specs.Counts.{sight-count, word-count};
+ghost use Rattle.tree.specs.Told.{told, listed, ended, nth, offersOf};
 ghost use Rattle.tree.specs.Built.{numberOf, refusedAt, atMost, admitted, sizesOf, Measured, Memory, Begins, nodesOf};
 ghost use Rattle.rules.specs.declared.Player.the-variants.{House, Guest};
 use rules::Ends;
@@ -39,6 +40,55 @@ pub struct History {
 pub struct Sight {
     pub own: u8,
     pub history: History,
+}
+
+impl Sight {
+    // How many choices the player has who sees this, where so many raises may be made in a round.
+    pub fn offers(self, raises: u8) -> u8
+        ensures { λ r. ⌜ r ≡ offersOf raises self ⌝ }
+    {
+        let line = match self.history.public {
+            None => self.history.first,
+            Some(_) => self.history.second,
+        };
+        if 0 < line.bets && line.bets <= raises { 3 } else { 2 }
+    }
+
+    // The choice that was made so many choices before the last one.
+    pub fn choice(self, back: usize) -> Option<u8>
+        ensures { λ r. ⌜ r ≡ nth (told self .choices) back ⌝ }
+    {
+        let first = self.history.first;
+        match self.history.public {
+            None => listed_at(first, back),
+            Some(_) => {
+                let second = self.history.second;
+                let made = second.checks as usize + second.bets as usize;
+                if back < made { listed_at(second, back) } else { ended_at(first, back - made) }
+            }
+        }
+    }
+}
+
+// The choice so far back in a round that goes on.
+fn listed_at(line: Line, back: usize) -> Option<u8>
+    ensures { λ r. ⌜ r ≡ nth (listed (line .checks) (line .bets)) back ⌝ }
+{
+    let bets = line.bets as usize;
+    if back < bets {
+        return if back + 1 == bets { Some(1) } else { Some(2) };
+    }
+    if back - bets < line.checks as usize { Some(0) } else { None }
+}
+
+// The choice so far back in a round that is over without a fold.
+fn ended_at(line: Line, back: usize) -> Option<u8>
+    ensures { λ r. ⌜ r ≡ nth (ended (line .checks) (line .bets)) back ⌝ }
+{
+    if line.bets == 0 {
+        return listed_at(line, back);
+    }
+    if back == 0 { Some(1) } else { listed_at(line, back - 1) }
 }
 
 // A place of the tree: over, with what each player has; a deal from so many parts (cards); a choice of a player at a sight, with
