@@ -17,3 +17,4 @@ mod Indexes
 mod Fills
 mod Builds
 mod Choices
+pub mod Offers
