@@ -11,6 +11,8 @@ use Rattle.rules.specs.Read as rules
 use Rattle.tree.specs.declared.Chair.{Chair}
 use Rattle.tree.specs.declared.Sizes.{Sizes}
 use Rattle.tree.specs.Built as tree
+use Rattle.rules.specs.declared.Refusal as R
+use Rattle.tree.specs.declared.Refusal as T
 use Rattle.answers.specs.declared.Refusal.{Refusal}
 use Rattle.answers.specs.declared.Refusal.the-variants.{Sheet as OfSheet, Tree as OfTree}
 use Rattle.answers.specs.declared.Answer.{Answer}
@@ -38,3 +40,20 @@ sized z =
 abbrev pub shown : Answer → List ℕ
 shown (Refused e) = refused e
 shown (Sized z) = sized z
+
+-- the places that the programs have memory for, and as many sights of each player
+abbrev pub room : ℕ
+room = 4096
+
+-- a rule sheet with a tree that fits the memory
+abbrev pub of-tree : Result Sizes T.Refusal → Answer
+of-tree (Ok z) = Sized z
+of-tree (Err e) = Refused (OfTree e)
+
+abbrev pub of-sheet : Result Sheet R.Refusal → Answer
+of-sheet (Ok s) = of-tree (tree.admitted (tree.sizesOf s) room room room)
+of-sheet (Err e) = Refused (OfSheet e)
+
+-- the first nine bytes are the rule sheet
+abbrev pub reckoned : List ℕ → Answer
+reckoned bytes = of-sheet (rules.read (take 9 bytes))

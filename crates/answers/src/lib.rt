@@ -1,10 +1,26 @@
 // From the bytes of a file to the text that a program prints.
 ghost use mathlib.Core.Path.{_≡_};
-ghost use Rattle.answers.specs.Text.{numberOf, placeOf, shown as shownAs};
+ghost use lib.ListN.{length, take, replicate};
+ghost use Prim.Native.Nat.{ℕ, _≤_};
+ghost use Rattle.answers.specs.Text.{numberOf, placeOf, shown as shownAs, reckoned, room};
 ghost use Rattle.std.specs.declared.option.Option.the-variants.{Some};
+ghost use Rattle.std.specs.Of.String.{string-bytes};
+ghost use Rattle.std.specs.Of.Vec.{vec-len};
+ghost use Rattle.std.specs.Vec.{made};
+use rules::Ends;
+use std::alloc::AllocError;
+use std::alloc::Global;
 use std::fmt;
 use std::fmt::Write;
+use tree::History;
+use tree::Line;
+use tree::Node;
+use tree::Place;
+use tree::Sight;
 use tree::Sizes;
+
+// The places that the programs have memory for.
+const ROOM: usize = 4096;
 
 // Why a file is turned away.
 #[derive(Clone, Copy)]
@@ -62,4 +78,56 @@ pub impl fmt::Display for Answer as AnswerDisplay {
             }
         }
     }
+}
+
+// The memory that is lent to the library: for the tree, and for the sights of each player.
+#[derive(Drop)]
+struct Memory {
+    nodes: Vec<Node>,
+    house: Vec<Sight>,
+    guest: Vec<Sight>,
+}
+
+// Memory for so many places.
+fn make_memory(heap: Global) -> Result<Memory, AllocError>
+    ensures { λ r. ⌜ made r (λ m. (vec-len (m .nodes) ≡ room) × ((vec-len (m .house) ≡ room) × (vec-len (m .guest) ≡ room))) ⌝ }
+{
+    let line = Line { checks: 0, bets: 0 };
+    let sight = Sight { own: 0, history: History { first: line, public: None, second: line } };
+    let node = Node { place: Place::Over(Ends { house: 0, guest: 0 }), share: 0, size: 0 };
+    let nodes = vec![in heap; node; ROOM]?;
+    let house = vec![in heap; sight; ROOM]?;
+    let guest = vec![in heap; sight; ROOM]?;
+    Ok(Memory { nodes, house, guest })
+}
+
+// The first nine bytes, or all where there are fewer.
+fn sheet_part(input: &[u8]) -> &[u8]
+    ensures { λ r. ⌜ now r ≡ take 9 (now (input .entry)) ⌝ }
+{
+    if input.len() < 9 { input } else { &input[0..9] }
+}
+
+// The answer to a file, with memory for `room` places.
+fn judge(input: &[u8], nodes: &mut [Node], house: &mut [Sight], guest: &mut [Sight]) -> Answer
+    requires { ⌜ length (now nodes) ≡ room ⌝ ∗ ⌜ length (now house) ≡ room ⌝ ∗ ⌜ length (now guest) ≡ room ⌝ }
+    ensures { λ r. ⌜ r ≡ reckoned (now (input .entry)) ⌝ }
+{
+    let sheet = match rules::read(sheet_part(input)) {
+        Ok(sheet) => sheet,
+        Err(e) => return Answer::Refused(Refusal::Sheet(e)),
+    };
+    match tree::build(sheet, nodes, house, guest) {
+        Ok(sizes) => Answer::Sized(sizes),
+        Err(e) => Answer::Refused(Refusal::Tree(e)),
+    }
+}
+
+// What the reckoning program prints for a file.
+pub fn reckon(heap: Global, input: &[u8]) -> Result<String, AllocError>
+    ensures { λ r. ⌜ made r (λ s. string-bytes s ≡ shownAs (reckoned (now (input .entry)))) ⌝ }
+{
+    let mut m = make_memory(heap)?;
+    let answer = judge(input, &mut m.nodes, &mut m.house, &mut m.guest);
+    format!(heap, "{answer}")
 }
