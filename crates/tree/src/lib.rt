@@ -768,7 +768,7 @@ pub fn measure(sheet: Sheet) -> Sizes
 }
 
 // The number, where it is at most so much.
-fn at_most(n: u32, most: usize) -> Option<u32>
+pub fn at_most(n: u32, most: usize) -> Option<u32>
     ensures { λ r. ⌜ r ≡ atMost n most ⌝ }
 {
     if n as usize <= most { Some(n) } else { None }

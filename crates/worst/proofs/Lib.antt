@@ -1,0 +1,12 @@
+pub mod Raised
+pub mod Lay
+pub mod Sums
+pub mod Fans
+pub mod Mid
+pub mod Worths
+pub mod Hops
+pub mod Steps
+pub mod Sifts
+pub mod Branches
+pub mod Rounds
+pub mod Wholes
