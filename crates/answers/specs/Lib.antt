@@ -1,1 +1,3 @@
 pub mod Text
+pub mod Files
+pub mod Ready

@@ -1,32 +1,29 @@
 // From the bytes of a file to the text that a program prints.
 ghost use mathlib.Core.Path.{_≡_};
-ghost use lib.ListN.{length, take, replicate};
-ghost use Prim.Native.Nat.{ℕ, _≤_};
-ghost use Rattle.answers.specs.Text.{numberOf, placeOf, shown as shownAs, reckoned, room};
+ghost use Rattle.answers.specs.Text.{numberOf, placeOf, refused, sized, kept as keptAs, shown as shownAs};
 ghost use Rattle.std.specs.declared.option.Option.the-variants.{Some};
-ghost use Rattle.std.specs.Of.String.{string-bytes};
-ghost use Rattle.std.specs.Of.Vec.{vec-len};
+ghost use Prim.Native.Nat.{ℕ, _≤_};
+ghost use lib.ListN.{length, take, drop};
+ghost use Rattle.answers.specs.Files.{opened, room};
+ghost use Rattle.answers.specs.Ready.{Ready};
 ghost use Rattle.std.specs.Vec.{made};
-use rules::Ends;
-use std::alloc::AllocError;
-use std::alloc::Global;
+use bracket::Verdict;
+use bracket::VerdictDisplay;
+use rules::Sheet;
 use std::fmt;
 use std::fmt::Write;
-use tree::History;
-use tree::Line;
-use tree::Node;
-use tree::Place;
-use tree::Sight;
 use tree::Sizes;
 
 // The places that the programs have memory for.
 const ROOM: usize = 4096;
 
-// Why a file is turned away.
+// Why a file or a hand is turned away.
 #[derive(Clone, Copy)]
 pub enum Refusal {
-    Sheet(rules::Refusal),
-    Tree(tree::Refusal),
+    OfSheet(rules::Refusal),
+    OfMemory(worst::Refusal),
+    OfPlan(plans::Refusal),
+    OfHand(hands::Refusal),
 }
 
 impl Refusal {
@@ -35,8 +32,10 @@ impl Refusal {
         ensures { λ r. ⌜ r ≡ numberOf self ⌝ }
     {
         match self {
-            Refusal::Sheet(e) => e.number(),
-            Refusal::Tree(e) => e.number(),
+            Refusal::OfSheet(e) => e.number(),
+            Refusal::OfMemory(e) => e.number(),
+            Refusal::OfPlan(e) => e.number(),
+            Refusal::OfHand(e) => e.number(),
         }
     }
 
@@ -45,9 +44,46 @@ impl Refusal {
         ensures { λ r. ⌜ r ≡ placeOf self ⌝ }
     {
         match self {
-            Refusal::Sheet(e) => e.place(),
-            Refusal::Tree(e) => e.place(),
+            Refusal::OfSheet(e) => e.place(),
+            Refusal::OfMemory(e) => e.place(),
+            Refusal::OfPlan(e) => e.place(),
+            Refusal::OfHand(e) => e.place(),
         }
+    }
+}
+
+pub impl fmt::Display for Refusal as RefusalDisplay {
+    ghost shown = { λ e. Some (refused e) };
+
+    fn fmt<W: fmt::Write>(&self, f: &mut fmt::Formatter<W>) -> fmt::Result {
+        let n = self.number();
+        let p = self.place();
+        write!(f, "refused {n} at {p}")
+    }
+}
+
+// How a file begins: a rule sheet, how large its tree is, and m.
+#[derive(Clone, Copy)]
+pub struct Opening {
+    pub sheet: Sheet,
+    pub sizes: Sizes,
+    pub m: u32,
+}
+
+// What a plan keeps: its worst, in so many hands.
+#[derive(Clone, Copy)]
+pub struct Kept {
+    pub worst: u64,
+    pub hands: u64,
+}
+
+pub impl fmt::Display for Kept as KeptDisplay {
+    ghost shown = { λ k. Some (keptAs k) };
+
+    fn fmt<W: fmt::Write>(&self, f: &mut fmt::Formatter<W>) -> fmt::Result {
+        let v = self.worst;
+        let h = self.hands;
+        write!(f, "worst {v} of {h}")
     }
 }
 
@@ -55,79 +91,83 @@ impl Refusal {
 #[derive(Clone, Copy)]
 pub enum Answer {
     Refused(Refusal),
-    Sized(Sizes),
+    // a plan
+    One(Sizes, Kept),
+    // a plan for each chair
+    Both(Sizes, Kept, Kept, Verdict),
+}
+
+// How large a tree is, as it is printed.
+#[derive(Clone, Copy)]
+struct Shown(Sizes);
+
+impl fmt::Display for Shown as ShownDisplay {
+    ghost shown = { λ z. Some (sized (z .0)) };
+
+    fn fmt<W: fmt::Write>(&self, f: &mut fmt::Formatter<W>) -> fmt::Result {
+        let n = self.0.places;
+        let h = self.0.house.sights;
+        let g = self.0.guest.sights;
+        let w = self.0.house.words;
+        let t = self.0.table;
+        write!(f, "places {n} sights {h} and {g} words {w} table {t}")
+    }
 }
 
 pub impl fmt::Display for Answer as AnswerDisplay {
-    ghost shown = { λ v. Some (shownAs v) };
+    ghost shown = { λ a. Some (shownAs a) };
 
     fn fmt<W: fmt::Write>(&self, f: &mut fmt::Formatter<W>) -> fmt::Result {
         match self {
-            Answer::Refused(e) => {
-                let n = e.number();
-                let p = e.place();
-                write!(f, "refused {n} at {p}\n")
+            Answer::Refused(e) => write!(f, "{e}\n"),
+            Answer::One(z, k) => {
+                let z = Shown(*z);
+                write!(f, "{z}\n{k}\n")
             }
-            Answer::Sized(z) => {
-                let n = z.places;
-                let h = z.house.sights;
-                let g = z.guest.sights;
-                let w = z.house.words;
-                let t = z.table;
-                write!(f, "places {n} sights {h} and {g} words {w} table {t}\n")
+            Answer::Both(z, k, r, v) => {
+                let z = Shown(*z);
+                write!(f, "{z}\n{k}\n{r}\n{v}\n")
             }
         }
     }
 }
 
-// The memory that is lent to the library: for the tree, and for the sights of each player.
-#[derive(Drop)]
-struct Memory {
-    nodes: Vec<Node>,
-    house: Vec<Sight>,
-    guest: Vec<Sight>,
+// The first so many bytes, or all where there are fewer.
+fn front(input: &[u8], n: usize) -> &[u8]
+    ensures { λ r. ⌜ now r ≡ take n (now (input .entry)) ⌝ }
+{
+    if input.len() < n { input } else { &input[0..n] }
 }
 
-// Memory for so many places.
-fn make_memory(heap: Global) -> Result<Memory, AllocError>
-    ensures { λ r. ⌜ made r (λ m. (vec-len (m .nodes) ≡ room) × ((vec-len (m .house) ≡ room) × (vec-len (m .guest) ≡ room))) ⌝ }
+// What follows the first so many bytes.
+fn past(input: &[u8], n: usize) -> &[u8]
+    ensures { λ r. ⌜ now r ≡ drop n (now (input .entry)) ⌝ }
 {
-    let line = Line { checks: 0, bets: 0 };
-    let sight = Sight { own: 0, history: History { first: line, public: None, second: line } };
-    let node = Node { place: Place::Over(Ends { house: 0, guest: 0 }), share: 0, size: 0 };
-    let nodes = vec![in heap; node; ROOM]?;
-    let house = vec![in heap; sight; ROOM]?;
-    let guest = vec![in heap; sight; ROOM]?;
-    Ok(Memory { nodes, house, guest })
+    if input.len() < n { &input[input.len()..] } else { &input[n..] }
 }
 
-// The first nine bytes, or all where there are fewer.
-fn sheet_part(input: &[u8]) -> &[u8]
-    ensures { λ r. ⌜ now r ≡ take 9 (now (input .entry)) ⌝ }
+// Reads the beginning of a file: the rule sheet and m.
+fn open_file(input: &[u8]) -> Result<Opening, Refusal>
+    ensures value { λ r. ⌜ r ≡ opened (now (input .entry)) ⌝ }
+    ensures ready { λ r. ⌜ made r Ready ⌝ }
 {
-    if input.len() < 9 { input } else { &input[0..9] }
-}
-
-// The answer to a file, with memory for `room` places.
-fn judge(input: &[u8], nodes: &mut [Node], house: &mut [Sight], guest: &mut [Sight]) -> Answer
-    requires { ⌜ length (now nodes) ≡ room ⌝ ∗ ⌜ length (now house) ≡ room ⌝ ∗ ⌜ length (now guest) ≡ room ⌝ }
-    ensures { λ r. ⌜ r ≡ reckoned (now (input .entry)) ⌝ }
-{
-    let sheet = match rules::read(sheet_part(input)) {
+    let sheet = match rules::read(front(input, 9)) {
         Ok(sheet) => sheet,
-        Err(e) => return Answer::Refused(Refusal::Sheet(e)),
+        Err(e) => return Err(Refusal::OfSheet(e)),
     };
-    match tree::build(sheet, nodes, house, guest) {
-        Ok(sizes) => Answer::Sized(sizes),
-        Err(e) => Answer::Refused(Refusal::Tree(e)),
+    let sizes = match worst::admit(tree::measure(sheet), ROOM, ROOM, ROOM, ROOM) {
+        Ok(sizes) => sizes,
+        Err(e) => return Err(Refusal::OfMemory(e)),
+    };
+    let Some(number) = plans::read_base(past(input, 9)) else {
+        return Err(Refusal::OfPlan(plans::Refusal::Base));
+    };
+    let m = match plans::check_base(sheet, number) {
+        Ok(m) => m,
+        Err(e) => return Err(Refusal::OfPlan(e)),
+    };
+    match plans::check_size(sizes.table, m, sizes.house.words) {
+        Ok(_) => Ok(Opening { sheet, sizes, m }),
+        Err(e) => Err(Refusal::OfPlan(e)),
     }
-}
-
-// What the reckoning program prints for a file.
-pub fn reckon(heap: Global, input: &[u8]) -> Result<String, AllocError>
-    ensures { λ r. ⌜ made r (λ s. string-bytes s ≡ shownAs (reckoned (now (input .entry)))) ⌝ }
-{
-    let mut m = make_memory(heap)?;
-    let answer = judge(input, &mut m.nodes, &mut m.house, &mut m.guest);
-    format!(heap, "{answer}")
 }

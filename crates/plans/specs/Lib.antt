@@ -1,1 +1,6 @@
 pub mod Plan
+pub mod Numbers
+pub mod Refusals
+pub mod Bases
+pub mod Bytes
+pub mod Stands

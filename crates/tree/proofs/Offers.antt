@@ -82,3 +82,7 @@ choices-are s h w i d l =
     let like = game-like s (h .ranks .most) in
     let e : getD (S.sights w (R.game s)) i nobody ≡ told (getD L i d) = ap (λ m. getD m i nobody) (sights-to (s .raises) (s .public) w like) ∙ getD-map told L i d nobody l in
     ap (λ (z : R.Sight). offered (s .begins) (s .raises) (z .choices)) e ∙ offers-are (s .begins) (s .raises) (s .public) (getD L i d) (all-at L (sights-valid (s .raises) (s .public) w like) i d l)
+
+-- a game has as many sights as are stored
+pub sights-many : (s : Sheet) → Sound s → (w : Player) → length (S.sights w (R.game s)) ≡ length (sightsOf w (gameAs s))
+sights-many s h w = ap (λ (l : List R.Sight). length l) (sights-to (s .raises) (s .public) w (game-like s (h .ranks .most))) ∙ length-map (sightsOf w (gameAs s)) told

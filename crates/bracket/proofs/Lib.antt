@@ -1,0 +1,3 @@
+mod Products
+pub mod Turns
+pub mod Seats

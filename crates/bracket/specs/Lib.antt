@@ -1,0 +1,4 @@
+pub mod Turned
+pub mod Halves
+pub mod Verdicts
+pub mod Chairs

@@ -1,0 +1,7 @@
+mod WordSteps
+mod Places
+mod Falls
+mod Kids
+mod Plays
+mod Turns
+pub mod HandSteps

@@ -1,0 +1,5 @@
+pub mod Refused
+pub mod Source
+pub mod Laid
+pub mod Steps
+pub mod Match
