@@ -1,3 +1,4 @@
 pub mod Text
 pub mod Files
 pub mod Ready
+pub mod Steps

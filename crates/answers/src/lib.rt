@@ -2,17 +2,34 @@
 ghost use mathlib.Core.Path.{_≡_};
 ghost use Rattle.answers.specs.Text.{numberOf, placeOf, refused, sized, kept as keptAs, shown as shownAs};
 ghost use Rattle.std.specs.declared.option.Option.the-variants.{Some};
-ghost use Prim.Native.Nat.{ℕ, _≤_};
+ghost use Prim.Native.Nat.{ℕ, _*_, _≤_};
 ghost use lib.ListN.{length, take, drop};
-ghost use Rattle.answers.specs.Files.{opened, room};
+ghost use Rattle.answers.specs.Files.{opened, room, sized-rival, reckoned};
 ghost use Rattle.answers.specs.Ready.{Ready};
+ghost use Rattle.answers.specs.Steps.{Standing, Keeping, Some-kept};
+ghost use Rattle.rules.specs.declared.Player.the-variants.{House, Guest};
+ghost use Rattle.rules.specs.Play.{purse};
+ghost use Rattle.rules.specs.Counts.{word-count};
+ghost use Rattle.rules.specs.Sights.{tree};
+ghost use Rattle.tree.specs.Compact.{gameAs};
+ghost use Rattle.tree.specs.Seen.{sightsOf};
+ghost use Rattle.tree.specs.Rep.{Rep};
+ghost use Rattle.plans.specs.Bases.{sizeOf};
+ghost use Rattle.worst.specs.Whole.{Some-whole};
 ghost use Rattle.std.specs.Vec.{made};
 use bracket::Verdict;
 use bracket::VerdictDisplay;
+use plans::Fault;
+use plans::Row;
 use rules::Sheet;
+use std::alloc::AllocError;
+use std::alloc::Global;
 use std::fmt;
 use std::fmt::Write;
+use tree::Node;
+use tree::Sight;
 use tree::Sizes;
+use worst::Entry;
 
 // The places that the programs have memory for.
 const ROOM: usize = 4096;
@@ -170,4 +187,45 @@ fn open_file(input: &[u8]) -> Result<Opening, Refusal>
         Ok(_) => Ok(Opening { sheet, sizes, m }),
         Err(e) => Err(Refusal::OfPlan(e)),
     }
+}
+
+// Writes the tree and its sights into the memory that the opening was admitted to.
+fn build_tree(o: Opening, nodes: &mut [Node], house: &mut [Sight], guest: &mut [Sight])
+    requires ready { ⌜ Ready o ⌝ }
+    requires rooms { ⌜ length (now nodes) ≡ room ⌝ ∗ ⌜ length (now house) ≡ room ⌝ ∗ ⌜ length (now guest) ≡ room ⌝ }
+    ensures { λ _. ⌜ Standing o (now (nodes .exit)) (now (house .exit)) (now (guest .exit)) ⌝ }
+{
+    let _ = tree::build(o.sheet, nodes, house, guest);
+}
+
+// What the plan in the rows keeps over the tree in the nodes.
+fn keep(nodes: &[Node], rows: &[Row], m: u32, words: u32, work: &mut [Entry]) -> Kept
+    requires { ⌜ Some-whole (now nodes) (now rows) m words (length (now work)) ⌝ }
+    ensures { λ r. ⌜ Keeping (now (nodes .entry)) (now (rows .entry)) m words (length (now (work .entry))) r ⌝ }
+{
+    let reckoned = worst::worst(nodes, rows, m, words, work);
+    Kept { worst: reckoned.worst, hands: (m as u64).pow(words) }
+}
+
+// The answer where the file goes on with a plan for the turned tree: the tree in the nodes is turned, and reckoned once more.
+fn rival(heap: Global, o: Opening, kept: Kept, plan: &[u8], nodes: &mut [Node], theirs: &[Sight], work: &mut [Entry]) -> Result<Answer, AllocError>
+    requires ready { ⌜ Ready o ⌝ }
+    requires tree { ⌜ Rep (2 * purse (o .sheet)) (o .m) (now nodes) 0 (tree (o .sheet) (o .m)) ⌝ }
+    requires rooms { ⌜ length (now nodes) ≡ room ⌝ ∗ ⌜ length (now work) ≡ room ⌝ }
+    requires sights { ⌜ now theirs ≡ sightsOf Guest (gameAs (o .sheet)) ⌝ }
+    requires kept { ⌜ Some-kept o kept ⌝ }
+    ensures { λ r. ⌜ made r (λ a. a ≡ sized-rival o kept (now (plan .entry)) (sizeOf (o .sizes .table) (o .m) (word-count (o .sheet) Guest))) ⌝ }
+{
+    if let Err(e) = plans::check_size(o.sizes.table, o.m, o.sizes.guest.words) {
+        return Ok(Answer::Refused(Refusal::OfPlan(e)));
+    }
+    let rows = match plans::read_plan(heap, o.sheet.raises, theirs, o.m, plan) {
+        Ok(rows) => rows,
+        Err(Fault::Refused(e)) => return Ok(Answer::Refused(Refusal::OfPlan(e))),
+        Err(Fault::Memory) => return Err(AllocError),
+    };
+    bracket::turn(nodes);
+    let other = keep(nodes, &rows, o.m, o.sizes.guest.words, work);
+    let verdict = bracket::bracket(kept.worst, other.hands, other.worst, kept.hands, o.sizes.table as u64);
+    Ok(Answer::Both(o.sizes, kept, other, verdict))
 }

@@ -1,7 +1,7 @@
--- A product from halves of 32 bits.
-use mathlib.Core.Path.{_≡_, sym, ap₂, _∙_}
-use Prim.Native.Nat.{ℕ, _+_, _*_, _/_, _%_, _^_}
-use native.Mathlib.Nat.{div-add-mod'}
+-- A product from halves of 32 bits, and a sum of two products that fits.
+use mathlib.Core.Path.{_≡_, ap₂, _∙_}
+use Prim.Native.Nat.{ℕ, _+_, _*_, _/_, _%_, _^_, _≤_, _<_}
+use native.Mathlib.Nat.{div-add-mod', mul-le-mul}
 use native.Mathlib.Omega.{arith}
 
 abbrev pub half : ℕ
@@ -18,3 +18,11 @@ product-is a b first second third f s t =
     rows (a / half) (a % half) (b / half) (b % half) (first / half) (first % half) (second / half) (second % half) (third / half) (third % half)
     (omega (arith, div-add-mod' first half)) (div-add-mod' second half ∙ s) (div-add-mod' third half ∙ t)
     ∙ ap₂ _*_ (div-add-mod' a half) (div-add-mod' b half)
+
+pub sum-fits : (x y a b c d : ℕ) → x ≡ a * b → y ≡ c * d → a < 2 ^ 62 → b < 2 ^ 64 → c < 2 ^ 62 → d < 2 ^ 64 → x + y < 2 ^ 128
+sum-fits x y a b c d e f ha hb hc hd =
+    let a′ : a ≤ 4611686018427387903 = omega arith in
+    let b′ : b ≤ 18446744073709551615 = omega arith in
+    let c′ : c ≤ 4611686018427387903 = omega arith in
+    let d′ : d ≤ 18446744073709551615 = omega arith in
+    omega (arith, mul-le-mul a′ b′, mul-le-mul c′ d′)

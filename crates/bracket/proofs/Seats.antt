@@ -2,7 +2,7 @@
 use mathlib.Core.Path.{_≡_, refl, sym, ap, _∙_}
 use mathlib.Core.Bool.{Bool, true, false}
 use mathlib.Core.List.{List, map}
-use Prim.Native.Nat.{ℕ, _+_, _*_, _^_, _≤_, _<_}
+use Prim.Native.Nat.{ℕ, _*_, _^_, _≤_, _<_}
 use native.Mathlib.Nat.{mul-le-mul-right, le-of-mul-le-mul-right, one-le-pow}
 use native.Mathlib.Omega.{arith}
 use lib.Dec.{eqb}
@@ -24,7 +24,7 @@ use Rattle.tree.specs.Rep.{Rep}
 use Rattle.bracket.specs.declared.Verdict.the-variants.{Best, Open}
 use Rattle.bracket.specs.Turned.{turnedNode}
 use Rattle.bracket.specs.Verdicts.{verdictOf}
-use Rattle.bracket.specs.Chairs.{words-of, Worst-at, left-side, right-side, verdict-at, Brackets, Brackets-stand}
+use Rattle.bracket.specs.Chairs.{words-of, Worst-at, left-side, right-side, verdict-at, Brackets-stand}
 use Rattle.bracket.proofs.Turns.{rep-turned}
 
 -- best means equal

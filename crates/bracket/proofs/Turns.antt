@@ -1,12 +1,11 @@
 -- A tree that lies in a row of nodes lies turned in the turned row. Assumes nothing.
 use mathlib.Core.Path.{_≡_, refl, sym, ap, ap₂, subst, _∙_}
 use mathlib.Core.List.{List, [], _∷_, map}
-use Prim.Native.Nat.{ℕ, zero, suc, _+_, _*_, _-_, _/_, _≤_, _<_}
+use Prim.Native.Nat.{ℕ, zero, suc, _+_, _*_, _-_, _/_, _≤_}
 use native.Mathlib.Omega.{arith}
-use lib.ListN.{length, getD}
 use Rattle.std.proofs.shelf.Lists.{length-map}
 use Rattle.cards.specs.Game.{Tree, over, deal, ours, theirs, Trees, none, more}
-use Rattle.cards.specs.Promise.{turned, turned-all, At-most, most-over, most-deal, most-ours, most-theirs, All-most, most-none, most-more}
+use Rattle.cards.specs.Promise.{turned, turned-all, At-most, most-over, most-deal, most-ours, most-theirs, All-most, most-more}
 use Rattle.cards.specs.Reckon.{places, places-all}
 use Rattle.tree.specs.declared.Place.{Place}
 use Rattle.tree.specs.declared.Place.the-variants.{Over, Deal, House, Guest}

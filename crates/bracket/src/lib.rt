@@ -148,10 +148,9 @@ pub fn bracket(v: u64, p: u64, u: u64, q: u64, table: u64) -> Verdict
 {
     let both = Wide::product(v, p).plus(Wide::product(u, q));
     let all = Wide::product(table * q, p);
-    if both.same(all) {
-        Verdict::Best
-    } else {
-        Verdict::Open
+    match both.same(all) {
+        true => Verdict::Best,
+        false => Verdict::Open,
     }
 }
 

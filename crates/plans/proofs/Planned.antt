@@ -1,25 +1,18 @@
 -- A plan that was read is a plan. Assumes nothing.
-use mathlib.Core.Path.{_≡_, refl, sym, ap, subst, _∙_}
+use mathlib.Core.Path.{_≡_, refl, sym, ap, _∙_}
 use mathlib.Core.Bool.{Bool, true, false}
-use mathlib.Core.Logic.{_⊎_, inl, inr}
 use mathlib.Core.List.{List, [], _∷_}
-use Prim.Native.Nat.{ℕ, zero, suc, _+_, _≤_, _<_}
+use Prim.Native.Nat.{ℕ, zero, suc, _≤_, _<_}
 use native.Mathlib.Omega.{arith}
-use lib.Dec.{eqb, ltb}
+use lib.Dec.{eqb}
 use lib.ListN.{length, getD, take, drop}
 use Rattle.cards.specs.Game.{pick, total}
 use Rattle.std.specs.declared.option.Option.{Option}
 use Rattle.std.specs.declared.option.Option.the-variants.{Some, None}
 use Rattle.std.specs.declared.result.Result.{Result}
-use Rattle.std.specs.declared.result.Result.the-variants.{Ok, Err}
+use Rattle.std.specs.declared.result.Result.the-variants.{Ok}
 use Rattle.std.proofs.shelf.Lists.{getD-map, length-map}
-use Rattle.std.proofs.shelf.Tests.{eqb-true, cases-bool, lt-ltb, le-ltb}
-use Rattle.rules.specs.declared.Player.{Player}
-use Rattle.rules.specs.declared.Sheet.{Sheet}
-use Rattle.rules.specs.Play as R
-use Rattle.rules.specs.Sights as S
-use Rattle.rules.specs.Sound.{Sound}
-use Rattle.rules.specs.Statements.{choices, Plans}
+use Rattle.std.proofs.shelf.Tests.{eqb-true}
 use Rattle.tree.specs.declared.Sight.{Sight}
 use Rattle.tree.specs.Compact.{gameAs}
 use Rattle.tree.specs.Seen.{sightsOf}
@@ -27,8 +20,8 @@ use Rattle.tree.specs.Told.{offersOf}
 use Rattle.tree.proofs.Offers.{choices-are, sights-many}
 use Rattle.plans.specs.declared.Row.{Row}
 use Rattle.plans.specs.declared.Refusal.{Refusal}
-use Rattle.plans.specs.declared.Refusal.the-variants.{Length, Sum}
-use Rattle.plans.specs.Plan.{no-row, planOf}
+use Rattle.plans.specs.declared.Refusal.the-variants.{Length}
+use Rattle.plans.specs.Plan.{no-row}
 use Rattle.plans.specs.Refusals.{holds}
 use Rattle.plans.specs.Numbers.{numbers}
 use Rattle.plans.specs.Bytes.{counts, bytesOf, rowOf, rowsOf, uneven, evened, planAs}

@@ -2,21 +2,18 @@
 use mathlib.Core.Path.{_≡_, refl, sym, ap, _∙_}
 use mathlib.Core.Bool.{Bool, true, false}
 use mathlib.Core.List.{List, [], _∷_, _++_, append-assoc, append-nil}
-use Prim.Native.Nat.{ℕ, zero, suc, _+_, _*_, _≤_, _<_}
+use Prim.Native.Nat.{ℕ, suc, _+_, _*_, _≤_, _<_}
 use native.Mathlib.Omega.{arith}
 use lib.Dec.{eqb}
 use lib.ListN.{length, getD, drop}
 use Rattle.cards.specs.Game.{pick, total}
-use Rattle.std.specs.declared.option.Option.{Option}
 use Rattle.std.specs.declared.option.Option.the-variants.{Some, None}
-use Rattle.std.specs.declared.result.Result.{Result}
 use Rattle.std.specs.declared.result.Result.the-variants.{Ok, Err}
 use Rattle.std.proofs.shelf.Lists.{at-drop-more, at-drop-all}
 use Rattle.std.proofs.shelf.Tests.{eq-eqb, ne-eqb, eqb-true, eqb-false}
 use Rattle.tree.specs.declared.Sight.{Sight}
 use Rattle.tree.specs.Told.{offersOf}
 use Rattle.plans.specs.declared.Row.{Row}
-use Rattle.plans.specs.declared.Refusal.{Refusal}
 use Rattle.plans.specs.declared.Refusal.the-variants.{Length, Sum}
 use Rattle.plans.specs.Refusals.{holds}
 use Rattle.plans.specs.Numbers.{numbers}

@@ -1,15 +1,12 @@
 -- Numbers in bytes, and the weights of a row. Assumes nothing.
 use mathlib.Core.Path.{_≡_, refl, sym, ap, _∙_}
-use mathlib.Core.Bool.{Bool, true, false}
 use mathlib.Core.List.{List, [], _∷_}
 use Prim.Native.Nat.{ℕ, zero, suc, _+_, _*_, _≤_, _<_}
 use native.Mathlib.Omega.{arith}
-use lib.Dec.{eqb, ltb}
+use lib.Dec.{eqb}
 use lib.ListN.{length, getD, drop}
 use Rattle.cards.specs.Game.{pick, total}
-use Rattle.std.specs.declared.option.Option.{Option}
-use Rattle.std.specs.declared.option.Option.the-variants.{Some, None}
-use Rattle.std.proofs.shelf.Lists.{drop-drop, length-drop, getD-drop}
+use Rattle.std.proofs.shelf.Lists.{drop-drop, getD-drop}
 use Rattle.std.proofs.shelf.Tests.{eq-eqb, ne-eqb, lt-ltb, le-ltb}
 use Rattle.plans.specs.declared.Row.{Row}
 use Rattle.plans.specs.Numbers.{number-of, numbers}

@@ -3,12 +3,12 @@ use mathlib.Core.Bool.{Bool, not, _||_}
 use Prim.Native.Nat.{ℕ, _*_, _-_, _%_, _^_, _≤_}
 use lib.Dec.{eqb, ltb}
 use Rattle.std.specs.declared.result.Result.{Result}
-use Rattle.std.specs.declared.result.Result.the-variants.{Ok, Err}
+use Rattle.std.specs.declared.result.Result.the-variants.{Ok}
 use Rattle.rules.specs.declared.Sheet.{Sheet}
 use Rattle.rules.specs.Read.{inside}
 use Rattle.rules.specs.Memory.{Dealable}
 use Rattle.plans.specs.declared.Refusal.{Refusal}
-use Rattle.plans.specs.declared.Refusal.the-variants.{Base, Deal, Large, Length, Sum}
+use Rattle.plans.specs.declared.Refusal.the-variants.{Base, Deal, Large}
 use Rattle.plans.specs.Refusals.{holds}
 
 abbrev pub divides : ℕ → ℕ → Bool

@@ -12,7 +12,7 @@ use Rattle.tree.specs.declared.Sight.{Sight}
 use Rattle.tree.specs.Told.{offersOf}
 use Rattle.plans.specs.declared.Row.{Row}
 use Rattle.plans.specs.declared.Refusal.{Refusal}
-use Rattle.plans.specs.declared.Refusal.the-variants.{Base, Deal, Large, Length, Sum}
+use Rattle.plans.specs.declared.Refusal.the-variants.{Length, Sum}
 use Rattle.plans.specs.Refusals.{holds}
 use Rattle.plans.specs.Numbers.{numbers}
 

@@ -4,7 +4,7 @@ use mathlib.Core.Bool.{Bool, true, false}
 use mathlib.Core.List.{List}
 use Prim.Native.Nat.{ℕ}
 use Rattle.std.specs.declared.result.Result.{Result}
-use Rattle.std.specs.declared.result.Result.the-variants.{Ok, Err}
+use Rattle.std.specs.declared.result.Result.the-variants.{Err}
 use Rattle.plans.specs.declared.Row.{Row}
 use Rattle.plans.specs.declared.Refusal.{Refusal}
 use Rattle.plans.specs.declared.Refusal.the-variants.{Base, Deal, Large, Length, Sum}

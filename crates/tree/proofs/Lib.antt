@@ -12,7 +12,7 @@ mod Valid
 mod Like
 mod Numbers
 mod Reading
-mod Measures
+pub mod Measures
 mod Indexes
 mod Fills
 mod Builds

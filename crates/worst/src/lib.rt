@@ -141,7 +141,7 @@ fn spread(
     let node = nodes[e.at as usize];
     let mut grown = Grown { len, sum: 0 };
     let mut at = e.at + 1;
-    let mut k = 0;
+    let mut k: u32 = 0;
     while at < e.at + node.size {
         let w = weight(nodes, rows, m, node.place, at as usize, k);
         let kid = Entry {

@@ -1,4 +1,3 @@
-use mathlib.Core.Path.{_≡_}
 use native.Mathlib.Omega.{arith}
 use lib.ListN.{getD}
 use Rattle.plans.proofs.Reading.{no-sight, bytes-more, bytes-none, offers-most}

@@ -1,8 +1,3 @@
-use mathlib.Core.Path.{_≡_, refl, sym, ap, _∙_}
-use mathlib.Core.List.{List, [], _∷_}
-use Prim.Native.Nat.{ℕ, _+_, _*_, _≤_}
-use native.Mathlib.Omega.{arith}
-use lib.ListN.{getD, drop}
 use Rattle.plans.proofs.Weights.{row-two, row-three}
 use Rattle.plans.proofs.row_at.Needs as need
 
