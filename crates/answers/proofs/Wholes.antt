@@ -1,6 +1,6 @@
 -- What the reckoning and the hands ask holds of a rule sheet's own tree and a plan that was read. Assumes nothing.
 use mathlib.Core.Path.{_≡_, refl, sym, ap, subst, _∙_}
-use mathlib.Core.List.{List, map}
+use mathlib.Core.List.{List, [], _∷_, map}
 use Prim.Native.Nat.{ℕ, zero, suc, _+_, _*_, _^_, _≤_, _<_}
 use native.Mathlib.Nat.{mul-le-mul, one-mul, mul-assoc, add-comm, pow-zero, pow-suc, mul-pos, le-of-mul-le-mul-right}
 use native.Mathlib.Omega.{arith}
@@ -36,6 +36,8 @@ use Rattle.tree.proofs.Offers.{sights-many}
 use Rattle.tree.specs.Rep.{Rep}
 use Rattle.tree.proofs.Measures.{measured}
 use Rattle.plans.specs.declared.Row.{Row}
+use Rattle.plans.specs.declared.Refusal as P
+use Rattle.plans.specs.Bytes.{bytesOf, planAs}
 use Rattle.plans.specs.Plan.{planOf}
 use Rattle.plans.specs.Bases.{Based, sizeOf}
 use Rattle.plans.proofs.Planned.{plans-stand}
@@ -47,7 +49,8 @@ use Rattle.bracket.specs.Turned.{turnedNode}
 use Rattle.bracket.proofs.Seats.{brackets-stand}
 use Rattle.hands.specs.Laid.{Laid}
 use Rattle.answers.specs.declared.Opening.{Opening}
-use Rattle.answers.specs.Files.{room, plan-in, keptBy}
+use Rattle.answers.specs.Files.{room, plan-in, plan-length, keptBy, with-plan, with-opening, beyond, sized-rival}
+use Rattle.answers.specs.declared.Answer.the-variants.{One}
 use Rattle.answers.specs.declared.Kept.{Kept}
 use Rattle.answers.specs.Ready.{Ready}
 use Rattle.answers.specs.Steps.{Standing, Keeping}
@@ -203,6 +206,26 @@ module _ (o : Opening) (r : Ready o) where
       let P : List Node → Type 0 = λ ns. Rep (2 * purse s) m ns 0 (seat s m Guest) in
       whole-at Guest bytes rows rows′ n1 (o .sizes .guest .words) space e er words-there es (subst P (sym en) (rep-turned (2 * purse s) m n0 0 (tree s m) rep (stands .table)))
       (ap (λ (ns : List Node). length ns) en ∙ length-map n0 turnedNode ∙ l) (rival-small k ek)
+
+  -- the code's steps from the bytes after m on are those of the answer's definition
+  pub to-plan : (res : Result (List Row) P.Refusal) (zs : List Sight) (n : ℕ) (rest part : List ℕ) → zs ≡ sightsOf House (gameAs s) → n ≡ bytesOf (s .raises) zs → part ≡ take n rest →
+      planAs (s .raises) zs m part ≡ res → with-plan o (drop n rest) res ≡ with-opening rest (Ok o)
+  to-plan res zs n rest part ez en ep er =
+      let l : n ≡ plan-length o House = en ∙ ap (bytesOf (s .raises)) ez in
+      let q : plan-in o House (take (plan-length o House) rest) ≡ res = ap (λ k. plan-in o House (take k rest)) (sym l) ∙ ap (plan-in o House) (sym ep) ∙ ap (λ z. planAs (s .raises) z m part) (sym ez) ∙ er in
+      ap (λ k. with-plan o (drop k rest) res) l ∙ ap (with-plan o (drop (plan-length o House) rest)) (sym q)
+
+  pub read-here : (res : Result (List Row) P.Refusal) (zs : List Sight) (part : List ℕ) → zs ≡ sightsOf House (gameAs s) → planAs (s .raises) zs m part ≡ res → plan-in o House part ≡ res
+  read-here res zs part ez er = ap (λ z. planAs (s .raises) z m part) (sym ez) ∙ er
+
+  -- nothing follows the plan; or something does
+  pub ends-here : (k : Kept) (l : List ℕ) → length l ≡ 0 → One (o .sizes) k ≡ beyond o k l
+  ends-here k [] e = refl
+  ends-here k (b ∷ l) e = absurd (omega arith)
+
+  pub goes-on : (k : Kept) (l : List ℕ) → (length l ≡ 0 → ⊥) → sized-rival o k l (sizeOf (o .sizes .table) m (word-count s Guest)) ≡ beyond o k l
+  goes-on k [] h = absurd (h refl)
+  goes-on k (b ∷ l) h = refl
 
 pub power-small : (k x : ℕ) → 0 < k → k * x < 2 ^ 62 → x < 2 ^ 62
 power-small k x h l = let a : 1 ≤ k = omega arith in let b : x ≤ x = omega arith in let c = mul-le-mul a b in let d = one-mul x in omega (arith, c, d)

@@ -4,7 +4,8 @@ ghost use Rattle.answers.specs.Text.{numberOf, placeOf, refused, sized, kept a
 ghost use Rattle.std.specs.declared.option.Option.the-variants.{Some};
 ghost use Prim.Native.Nat.{ℕ, _*_, _≤_};
 ghost use lib.ListN.{length, take, drop};
-ghost use Rattle.answers.specs.Files.{opened, room, sized-rival, reckoned};
+ghost use Rattle.answers.specs.Files.{opened, room, sized-rival, with-opening, reckoned};
+ghost use Rattle.std.specs.declared.result.Result.the-variants.{Ok};
 ghost use Rattle.answers.specs.Ready.{Ready};
 ghost use Rattle.answers.specs.Steps.{Standing, Keeping, Some-kept};
 ghost use Rattle.rules.specs.declared.Player.the-variants.{House, Guest};
@@ -228,4 +229,43 @@ fn rival(heap: Global, o: Opening, kept: Kept, plan: &[u8], nodes: &mut [Node], 
     let other = keep(nodes, &rows, o.m, o.sizes.guest.words, work);
     let verdict = bracket::bracket(kept.worst, other.hands, other.worst, kept.hands, o.sizes.table as u64);
     Ok(Answer::Both(o.sizes, kept, other, verdict))
+}
+
+// The answer to a file that begins so, from the bytes after m on, with the tree and the sights in memory.
+fn answer_plans(heap: Global, o: Opening, rest: &[u8], nodes: &mut [Node], ours: &[Sight], theirs: &[Sight], work: &mut [Entry]) -> Result<Answer, AllocError>
+    requires ready { ⌜ Ready o ⌝ }
+    requires tree { ⌜ Rep (2 * purse (o .sheet)) (o .m) (now nodes) 0 (tree (o .sheet) (o .m)) ⌝ }
+    requires rooms { ⌜ length (now nodes) ≡ room ⌝ ∗ ⌜ length (now work) ≡ room ⌝ }
+    requires ours { ⌜ now ours ≡ sightsOf House (gameAs (o .sheet)) ⌝ }
+    requires theirs { ⌜ now theirs ≡ sightsOf Guest (gameAs (o .sheet)) ⌝ }
+    ensures { λ r. ⌜ made r (λ a. a ≡ with-opening (now (rest .entry)) (Ok o)) ⌝ }
+{
+    let n = plans::plan_bytes(o.sheet.raises, ours);
+    let rows = match plans::read_plan(heap, o.sheet.raises, ours, o.m, front(rest, n)) {
+        Ok(rows) => rows,
+        Err(Fault::Refused(e)) => return Ok(Answer::Refused(Refusal::OfPlan(e))),
+        Err(Fault::Memory) => return Err(AllocError),
+    };
+    let kept = keep(nodes, &rows, o.m, o.sizes.house.words, work);
+    let more = past(rest, n);
+    if more.is_empty() {
+        return Ok(Answer::One(o.sizes, kept));
+    }
+    rival(heap, o, kept, more, nodes, theirs, work)
+}
+
+// The answer to a file, with memory for `room` places.
+fn judge(heap: Global, input: &[u8], nodes: &mut [Node], house: &mut [Sight], guest: &mut [Sight], work: &mut [Entry]) -> Result<Answer, AllocError>
+    requires tree { ⌜ length (now nodes) ≡ room ⌝ ∗ ⌜ length (now house) ≡ room ⌝ ∗ ⌜ length (now guest) ≡ room ⌝ }
+    requires work { ⌜ length (now work) ≡ room ⌝ }
+    ensures { λ r. ⌜ made r (λ a. a ≡ reckoned (now (input .entry))) ⌝ }
+{
+    let o = match open_file(input) {
+        Ok(o) => o,
+        Err(e) => return Ok(Answer::Refused(e)),
+    };
+    build_tree(o, nodes, house, guest);
+    let ours = &house[0..o.sizes.house.sights as usize];
+    let theirs = &guest[0..o.sizes.guest.sights as usize];
+    answer_plans(heap, o, past(input, 13), nodes, ours, theirs, work)
 }
