@@ -1,2 +1,4 @@
 mod Openings
 mod Wholes
+mod Begins
+mod Promises

@@ -2,3 +2,4 @@ pub mod Text
 pub mod Files
 pub mod Ready
 pub mod Steps
+pub mod Promised
