@@ -2,3 +2,4 @@ mod Openings
 mod Wholes
 mod Begins
 mod Promises
+mod Tables

@@ -3,3 +3,4 @@ pub mod Files
 pub mod Ready
 pub mod Steps
 pub mod Promised
+pub mod Hands

@@ -18,16 +18,30 @@ ghost use Rattle.tree.specs.Rep.{Rep};
 ghost use Rattle.plans.specs.Bases.{sizeOf};
 ghost use Rattle.worst.specs.Whole.{Some-whole};
 ghost use Rattle.std.specs.Vec.{made};
+ghost use Rattle.std.specs.Of.String.{string-bytes};
+ghost use Rattle.std.specs.Of.Vec.{vec-len};
+ghost use Rattle.std.specs.Results.{Cases};
+ghost use mathlib.Core.List.{List, [], _++_};
+ghost use Rattle.cards.specs.Game.{Tree};
+ghost use Rattle.hands.specs.Laid.{Some-laid, Laid};
+ghost use Rattle.hands.specs.Match.{outcomesOf};
+ghost use Rattle.plans.specs.Plan.{planOf};
+ghost use Rattle.answers.specs.Promised.{Reckons};
+ghost use Rattle.answers.specs.Hands.{hand-line, hand-lines, play-text, Plays};
 use bracket::Verdict;
 use bracket::VerdictDisplay;
 use plans::Fault;
 use plans::Row;
+use rules::Ends;
 use rules::Sheet;
 use std::alloc::AllocError;
 use std::alloc::Global;
 use std::fmt;
 use std::fmt::Write;
+use tree::History;
+use tree::Line;
 use tree::Node;
+use tree::Place;
 use tree::Sight;
 use tree::Sizes;
 use worst::Entry;
@@ -268,4 +282,37 @@ fn judge(heap: Global, input: &[u8], nodes: &mut [Node], house: &mut [Sight], gu
     let ours = &house[0..o.sizes.house.sights as usize];
     let theirs = &guest[0..o.sizes.guest.sights as usize];
     answer_plans(heap, o, past(input, 13), nodes, ours, theirs, work)
+}
+
+// The memory that is lent to the library: for the tree, for the sights of each player, and the work row.
+#[derive(Drop)]
+struct Memory {
+    nodes: Vec<Node>,
+    house: Vec<Sight>,
+    guest: Vec<Sight>,
+    work: Vec<Entry>,
+}
+
+// Memory for `room` places.
+fn make_memory(heap: Global) -> Result<Memory, AllocError>
+    ensures { λ r. ⌜ made r (λ m. (vec-len (m .nodes) ≡ room) × ((vec-len (m .house) ≡ room) × ((vec-len (m .guest) ≡ room) × (vec-len (m .work) ≡ room)))) ⌝ }
+{
+    let line = Line { checks: 0, bets: 0 };
+    let sight = Sight { own: 0, history: History { first: line, public: None, second: line } };
+    let node = Node { place: Place::Over(Ends { house: 0, guest: 0 }), share: 0, size: 0 };
+    let nodes = vec![in heap; node; ROOM]?;
+    let house = vec![in heap; sight; ROOM]?;
+    let guest = vec![in heap; sight; ROOM]?;
+    let work = vec![in heap; Entry::blank(); ROOM]?;
+    Ok(Memory { nodes, house, guest, work })
+}
+
+// What the reckoning program prints for a file.
+pub fn reckon(heap: Global, input: &[u8]) -> Result<String, AllocError>
+    ensures text { λ r. ⌜ made r (λ s. string-bytes s ≡ shownAs (reckoned (now (input .entry)))) ⌝ }
+    ensures promised { λ _. ⌜ Reckons (now (input .entry)) ⌝ }
+{
+    let mut m = make_memory(heap)?;
+    let answer = judge(heap, input, &mut m.nodes, &mut m.house, &mut m.guest, &mut m.work)?;
+    format!(heap, "{answer}")
 }
