@@ -1,6 +1,8 @@
 -- What is promised of the hands that are played holds. Assumes nothing.
 use mathlib.Core.Path.{_≡_, refl, sym, ap, subst, _∙_}
-use mathlib.Core.List.{List, [], _∷_, _++_, append-nil}
+use mathlib.Core.List.{List, [], _∷_, _++_, append-nil, append-assoc}
+use lib.Chars.{codes}
+use Rattle.answers.specs.Text.{line}
 use Prim.Native.Nat.{ℕ, _+_, _-_, _*_, _^_, _≤_, _<_}
 use lib.ListN.{take, drop}
 use Rattle.std.specs.declared.result.Result.{Result}
@@ -23,11 +25,13 @@ use Rattle.tree.specs.Rep.{endsOf}
 use Rattle.hands.specs.declared.Refusal as H
 use Rattle.hands.specs.Refused.{outcomeOf}
 use Rattle.hands.specs.Laid.{Shared}
+use Rattle.hands.specs.Match.{outcomesOf, handsOf}
+use Rattle.plans.specs.Plan.{planOf}
 use Rattle.answers.specs.declared.Opening.{Opening}
 use Rattle.answers.specs.Files.{opened, past-m, plan-length, plan-in}
 use Rattle.answers.specs.Ready.{Ready}
 use Rattle.answers.specs.Promised.{plan-read}
-use Rattle.answers.specs.Hands.{hand-line, outcome-line, table-of, tree-of, At-table, Plays}
+use Rattle.answers.specs.Hands.{hand-line, outcome-line, hand-lines, play-plan, table-of, tree-of, At-table, Plays}
 use Rattle.answers.proofs.Wholes.{stands, well}
 use Rattle.answers.proofs.Begins.{opened-ready}
 use Rattle.answers.proofs.Promises.{keeps}
@@ -57,3 +61,21 @@ plays bytes o rows eo er = at-table o (opened-ready bytes o eo) (take (plan-leng
 pub same-line : (k : ℕ) (r : Result Ends H.Refusal) → Shared k r → hand-line r ≡ outcome-line k (outcomeOf r)
 same-line k (Ok e) h = ap (λ (x : Ends). hand-line (Ok x)) h
 same-line k (Err e) h = refl
+
+-- one more line is printed
+pub step-lines : (k : ℕ) (out out′ : List ℕ) (r : Result Ends H.Refusal) (os os′ : List Outcome) → out′ ≡ out ++ line (hand-line r) [] → Shared k r → os ≡ outcomeOf r ∷ os′ →
+    out′ ++ hand-lines k os′ ≡ out ++ hand-lines k os
+step-lines k out out′ r os os′ eo sh es =
+    let X = hand-lines k os′ in
+    let h = hand-line r in
+    ap (λ l. l ++ X) eo ∙ append-assoc out (line h []) X ∙ ap (λ l. out ++ l) (append-assoc h (codes "\n" ++ []) X)
+    ∙ ap (λ l. out ++ line l X) (same-line k r sh) ∙ ap (λ l. out ++ hand-lines k l) (sym es)
+
+-- nothing is left to print
+pub printed : (o : Opening) (rows rows′ : List Weights) (out out′ input : List ℕ) → out ≡ [] → rows′ ≡ rows →
+    out′ ++ hand-lines (table-of o) (outcomesOf (o .m) (planOf rows′ (choices (o .sheet) House)) (tree-of o) []) ≡ out ++ hand-lines (table-of o) (outcomesOf (o .m) (planOf rows′ (choices (o .sheet) House)) (tree-of o) input) →
+    out′ ≡ play-plan o input (Ok rows)
+unfolding handsOf
+printed o rows rows′ out out′ input eo er e =
+    sym (append-nil out′) ∙ e ∙ ap (λ l. l ++ hand-lines (table-of o) (outcomesOf (o .m) (planOf rows′ (choices (o .sheet) House)) (tree-of o) input)) eo
+    ∙ ap (λ v. hand-lines (table-of o) (outcomesOf (o .m) (planOf v (choices (o .sheet) House)) (tree-of o) input)) er

@@ -49,7 +49,7 @@ use Rattle.bracket.specs.Turned.{turnedNode}
 use Rattle.bracket.proofs.Seats.{brackets-stand}
 use Rattle.hands.specs.Laid.{Laid}
 use Rattle.answers.specs.declared.Opening.{Opening}
-use Rattle.answers.specs.Files.{room, plan-in, plan-length, keptBy, with-plan, with-opening, beyond, sized-rival}
+use Rattle.answers.specs.Files.{room, plan-in, plan-length, keptBy, beyond, sized-rival}
 use Rattle.answers.specs.declared.Answer.the-variants.{One}
 use Rattle.answers.specs.declared.Kept.{Kept}
 use Rattle.answers.specs.Ready.{Ready}
@@ -110,7 +110,7 @@ module _ (o : Opening) (r : Ready o) where
     fits = (let a = seat-places w in let b = fits .work in omega (arith, a, b));
     few = (let q = l in omega (arith, q)) }
 
-  pub laid : (bytes : List ℕ) (rows : List Row) (nodes : List Node) → plan-in o House bytes ≡ Ok rows → Rep (2 * purse s) m nodes 0 (tree s m) →
+  laid : (bytes : List ℕ) (rows : List Row) (nodes : List Node) → plan-in o House bytes ≡ Ok rows → Rep (2 * purse s) m nodes 0 (tree s m) →
       Laid (2 * purse s) m (word-count s House) (choices s House) (choices s Guest) rows nodes 0 (tree s m)
   laid bytes rows nodes e rep = record { lies = rep; fits = well House bytes rows e }
 
@@ -207,13 +207,14 @@ module _ (o : Opening) (r : Ready o) where
       whole-at Guest bytes rows rows′ n1 (o .sizes .guest .words) space e er words-there es (subst P (sym en) (rep-turned (2 * purse s) m n0 0 (tree s m) rep (stands .table)))
       (ap (λ (ns : List Node). length ns) en ∙ length-map n0 turnedNode ∙ l) (rival-small k ek)
 
-  -- the code's steps from the bytes after m on are those of the answer's definition
-  pub to-plan : (res : Result (List Row) P.Refusal) (zs : List Sight) (n : ℕ) (rest part : List ℕ) → zs ≡ sightsOf House (gameAs s) → n ≡ bytesOf (s .raises) zs → part ≡ take n rest →
-      planAs (s .raises) zs m part ≡ res → with-plan o (drop n rest) res ≡ with-opening rest (Ok o)
-  to-plan res zs n rest part ez en ep er =
+  -- the code's steps from the bytes after m on are those of a definition that cuts the plan off
+  pub to-plan : {X : Type 0} (F : List ℕ → Result (List Row) P.Refusal → X) (res : Result (List Row) P.Refusal) (zs : List Sight) (n : ℕ) (rest part : List ℕ) →
+      zs ≡ sightsOf House (gameAs s) → n ≡ bytesOf (s .raises) zs → part ≡ take n rest → planAs (s .raises) zs m part ≡ res →
+      F (drop n rest) res ≡ F (drop (plan-length o House) rest) (plan-in o House (take (plan-length o House) rest))
+  to-plan F res zs n rest part ez en ep er =
       let l : n ≡ plan-length o House = en ∙ ap (bytesOf (s .raises)) ez in
       let q : plan-in o House (take (plan-length o House) rest) ≡ res = ap (λ k. plan-in o House (take k rest)) (sym l) ∙ ap (plan-in o House) (sym ep) ∙ ap (λ z. planAs (s .raises) z m part) (sym ez) ∙ er in
-      ap (λ k. with-plan o (drop k rest) res) l ∙ ap (with-plan o (drop (plan-length o House) rest)) (sym q)
+      ap (λ k. F (drop k rest) res) l ∙ ap (F (drop (plan-length o House) rest)) (sym q)
 
   pub read-here : (res : Result (List Row) P.Refusal) (zs : List Sight) (part : List ℕ) → zs ≡ sightsOf House (gameAs s) → planAs (s .raises) zs m part ≡ res → plan-in o House part ≡ res
   read-here res zs part ez er = ap (λ z. planAs (s .raises) z m part) (sym ez) ∙ er
@@ -226,6 +227,12 @@ module _ (o : Opening) (r : Ready o) where
   pub goes-on : (k : Kept) (l : List ℕ) → (length l ≡ 0 → ⊥) → sized-rival o k l (sizeOf (o .sizes .table) m (word-count s Guest)) ≡ beyond o k l
   goes-on k [] h = absurd (h refl)
   goes-on k (b ∷ l) h = refl
+
+  pub laid-at : (bytes : List ℕ) (rows rows′ : List Row) (nodes : List Node) → plan-in o House bytes ≡ Ok rows → rows′ ≡ rows → Rep (2 * purse s) m nodes 0 (tree s m) →
+      Laid (2 * purse s) m (word-count s House) (choices s House) (choices s Guest) rows′ nodes 0 (tree s m)
+  laid-at bytes rows rows′ nodes e er rep =
+      let P : List Row → Type 0 = λ v. Laid (2 * purse s) m (word-count s House) (choices s House) (choices s Guest) v nodes 0 (tree s m) in
+      subst P (sym er) (laid bytes rows nodes e rep)
 
 pub power-small : (k x : ℕ) → 0 < k → k * x < 2 ^ 62 → x < 2 ^ 62
 power-small k x h l = let a : 1 ≤ k = omega arith in let b : x ≤ x = omega arith in let c = mul-le-mul a b in let d = one-mul x in omega (arith, c, d)

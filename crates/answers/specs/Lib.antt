@@ -1,6 +1,6 @@
 pub mod Text
 pub mod Files
 pub mod Ready
-pub mod Steps
 pub mod Promised
 pub mod Hands
+pub mod Steps

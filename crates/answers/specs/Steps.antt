@@ -1,6 +1,9 @@
 -- What the steps between a file and its answer leave in memory. Assumes nothing: these are definitions.
 use mathlib.Core.Path.{_≡_}
-use mathlib.Core.List.{List}
+use mathlib.Core.List.{List, _++_}
+use Rattle.hands.specs.Laid.{Laid}
+use Rattle.hands.specs.Match.{outcomesOf}
+use Rattle.answers.specs.Hands.{hand-lines}
 use Prim.Native.Nat.{ℕ, _*_, _^_}
 use lib.ListN.{length, take}
 use Rattle.cards.specs.Game.{Tree}
@@ -40,3 +43,9 @@ pub record Some-kept (o : Opening) (k : Kept) : Type 0 where
   pub rows : List Row
   pub read : plan-in o House bytes ≡ Ok rows
   pub is : k ≡ keptBy o House rows
+
+-- what is printed so far and what is still to be printed, before and after: together they are the same
+abbrev pub Lines : List Node → List Row → ℕ → List ℕ → List ℕ → List ℕ → List ℕ → Type 0
+Lines nodes rows m before input after rest =
+    (k n : ℕ) (c counts : ℕ → ℕ) (t : Tree) → Laid k m n c counts rows nodes 0 t →
+    after ++ hand-lines k (outcomesOf m (planOf rows c) t rest) ≡ before ++ hand-lines k (outcomesOf m (planOf rows c) t input)

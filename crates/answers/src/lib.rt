@@ -4,7 +4,7 @@ ghost use Rattle.answers.specs.Text.{numberOf, placeOf, refused, sized, kept a
 ghost use Rattle.std.specs.declared.option.Option.the-variants.{Some};
 ghost use Prim.Native.Nat.{ℕ, _*_, _≤_};
 ghost use lib.ListN.{length, take, drop};
-ghost use Rattle.answers.specs.Files.{opened, room, sized-rival, with-opening, reckoned};
+ghost use Rattle.answers.specs.Files.{opened, past-m, room, sized-rival, with-opening, reckoned};
 ghost use Rattle.std.specs.declared.result.Result.the-variants.{Ok};
 ghost use Rattle.answers.specs.Ready.{Ready};
 ghost use Rattle.answers.specs.Steps.{Standing, Keeping, Some-kept};
@@ -27,7 +27,9 @@ ghost use Rattle.hands.specs.Laid.{Some-laid, Laid};
 ghost use Rattle.hands.specs.Match.{outcomesOf};
 ghost use Rattle.plans.specs.Plan.{planOf};
 ghost use Rattle.answers.specs.Promised.{Reckons};
-ghost use Rattle.answers.specs.Hands.{hand-line, hand-lines, play-text, Plays};
+ghost use Rattle.answers.specs.Hands.{hand-line, play-opening, play-text, Plays};
+ghost use Rattle.answers.specs.Text.{line};
+ghost use Rattle.answers.specs.Steps.{Lines};
 use bracket::Verdict;
 use bracket::VerdictDisplay;
 use plans::Fault;
@@ -315,4 +317,98 @@ pub fn reckon(heap: Global, input: &[u8]) -> Result<String, AllocError>
     let mut m = make_memory(heap)?;
     let answer = judge(heap, input, &mut m.nodes, &mut m.house, &mut m.guest, &mut m.work)?;
     format!(heap, "{answer}")
+}
+
+// A hand as it is printed.
+#[derive(Clone, Copy)]
+struct HandLine(Result<Ends, hands::Refusal>);
+
+impl fmt::Display for HandLine as HandLineDisplay {
+    ghost shown = { λ l. Some (hand-line (l .0)) };
+
+    fn fmt<W: fmt::Write>(&self, f: &mut fmt::Formatter<W>) -> fmt::Result {
+        match self.0 {
+            Ok(ends) => {
+                let h = ends.house;
+                let g = ends.guest;
+                write!(f, "house {h} guest {g}")
+            }
+            Err(e) => {
+                let e = Refusal::OfHand(e);
+                write!(f, "{e}")
+            }
+        }
+    }
+}
+
+// Adds the line of a hand.
+fn add_line(result: Result<Ends, hands::Refusal>, out: &mut String) -> fmt::Result
+    ensures { λ r. ⌜ Cases r (λ _. string-bytes (now (out .exit)) ≡ string-bytes (now (out .entry)) ++ line (hand-line result) []) (λ _. Unit {0}) ⌝ }
+{
+    let text = HandLine(result);
+    write!(out, "{text}\n")
+}
+
+// Plays the hands of the bytes one after the other, and adds a line for each.
+fn write_hands(nodes: &[Node], rows: &[Row], m: u32, input: &[u8], out: &mut String) -> fmt::Result
+    requires { ⌜ Some-laid m (now rows) (now nodes) ⌝ }
+    ensures { λ r. ⌜ Cases r (λ _. Lines (now (nodes .entry)) (now (rows .entry)) m (string-bytes (now (out .entry))) (now (input .entry)) (string-bytes (now (out .exit))) []) (λ _. Unit {0}) ⌝ }
+{
+    let mut rest = input;
+    while let Some(hand) = hands::next_hand(nodes, rows, m, rest) {
+        add_line(hand.result, out)?;
+        rest = hand.rest;
+    }
+    Ok(())
+}
+
+// The line of a refusal.
+fn refusal_line(heap: Global, e: Refusal) -> Result<String, AllocError>
+    ensures { λ r. ⌜ made r (λ s. string-bytes s ≡ line (refused e) []) ⌝ }
+{
+    format!(heap, "{e}\n")
+}
+
+// The lines of the hands of a file that begins so, from the bytes after m on, with the tree and the sights of the house in memory.
+fn play_plan(heap: Global, o: Opening, rest: &[u8], nodes: &[Node], ours: &[Sight]) -> Result<String, AllocError>
+    requires ready { ⌜ Ready o ⌝ }
+    requires tree { ⌜ Rep (2 * purse (o .sheet)) (o .m) (now nodes) 0 (tree (o .sheet) (o .m)) ⌝ }
+    requires room { ⌜ length (now nodes) ≡ room ⌝ }
+    requires ours { ⌜ now ours ≡ sightsOf House (gameAs (o .sheet)) ⌝ }
+    ensures { λ r. ⌜ made r (λ s. string-bytes s ≡ play-opening (now (rest .entry)) (Ok o)) ⌝ }
+{
+    let n = plans::plan_bytes(o.sheet.raises, ours);
+    let rows = match plans::read_plan(heap, o.sheet.raises, ours, o.m, front(rest, n)) {
+        Ok(rows) => rows,
+        Err(Fault::Refused(e)) => return refusal_line(heap, Refusal::OfPlan(e)),
+        Err(Fault::Memory) => return Err(AllocError),
+    };
+    let mut out = String::new(heap);
+    match write_hands(nodes, &rows, o.m, past(rest, n), &mut out) {
+        Ok(()) => Ok(out),
+        Err(_) => Err(AllocError),
+    }
+}
+
+// The lines of the hands of a file that begins so, with memory for `room` places.
+fn play_file(heap: Global, o: Opening, input: &[u8], nodes: &mut [Node], house: &mut [Sight], guest: &mut [Sight]) -> Result<String, AllocError>
+    requires ready { ⌜ Ready o ⌝ }
+    requires rooms { ⌜ length (now nodes) ≡ room ⌝ ∗ ⌜ length (now house) ≡ room ⌝ ∗ ⌜ length (now guest) ≡ room ⌝ }
+    ensures { λ r. ⌜ made r (λ s. string-bytes s ≡ play-opening (past-m (now (input .entry))) (Ok o)) ⌝ }
+{
+    build_tree(o, nodes, house, guest);
+    play_plan(heap, o, past(input, 13), nodes, &house[0..o.sizes.house.sights as usize])
+}
+
+// What the playing program prints for a file.
+pub fn play(heap: Global, input: &[u8]) -> Result<String, AllocError>
+    ensures text { λ r. ⌜ made r (λ s. string-bytes s ≡ play-text (now (input .entry))) ⌝ }
+    ensures promised { λ _. ⌜ Plays (now (input .entry)) ⌝ }
+{
+    let o = match open_file(input) {
+        Ok(o) => o,
+        Err(e) => return refusal_line(heap, e),
+    };
+    let mut m = make_memory(heap)?;
+    play_file(heap, o, input, &mut m.nodes, &mut m.house, &mut m.guest)
 }

@@ -40,7 +40,7 @@ returns-then-is-empty c =
     let e = eqb-true (length (c .past-more .result .now)) 0 (sym (c .if-is-empty .ensures tt)) in
     ends-here o r (c .keep-kept .result) (c .past-more .result .now) e
     ∙ ap (beyond o (c .keep-kept .result)) (c .past-more .ensures) ∙ ap (λ v. beyond o v (drop (c .plan-bytes-n .result) (c .args .rest .now))) k
-    ∙ to-plan o r (Ok (vec-items (c .in-Ok .rows))) _ (c .plan-bytes-n .result) (c .args .rest .now) _ (c .pre .ours) (c .plan-bytes-n .ensures) (c .front .ensures) (c .in-Ok .ensures tt)
+    ∙ to-plan o r (with-plan o) (Ok (vec-items (c .in-Ok .rows))) _ (c .plan-bytes-n .result) (c .args .rest .now) _ (c .pre .ours) (c .plan-bytes-n .ensures) (c .front .ensures) (c .in-Ok .ensures tt)
 
 pub rival-requires : need.rival-requires
 rival-requires c κs =
@@ -68,5 +68,5 @@ returns c =
     let some = eqb-false (length more) 0 (sym (c .is-empty .ensures) ∙ c .if-is-empty .left) in
     let on : sized-rival o (c .keep-kept .result) more (sizeOf (o .sizes .table) (o .m) (word-count (o .sheet) Guest)) ≡ with-opening (c .args .rest .now) (Ok o) =
       goes-on o r (c .keep-kept .result) more some ∙ ap (beyond o (c .keep-kept .result)) (c .past-more .ensures) ∙ ap (λ v. beyond o v (drop (c .plan-bytes-n .result) (c .args .rest .now))) k
-      ∙ to-plan o r (Ok (vec-items (c .in-Ok .rows))) _ (c .plan-bytes-n .result) (c .args .rest .now) _ (c .pre .ours) (c .plan-bytes-n .ensures) (c .front .ensures) (c .in-Ok .ensures tt) in
+      ∙ to-plan o r (with-plan o) (Ok (vec-items (c .in-Ok .rows))) _ (c .plan-bytes-n .result) (c .args .rest .now) _ (c .pre .ours) (c .plan-bytes-n .ensures) (c .front .ensures) (c .in-Ok .ensures tt) in
     made-weaker (c .rival .result) (λ (a : Answer). a ≡ sized-rival o (c .keep-kept .result) more (sizeOf (o .sizes .table) (o .m) (word-count (o .sheet) Guest))) _ (λ a e. e ∙ on) (c .rival .ensures)
