@@ -1,0 +1,9 @@
+//! `play` in plain Rust.
+use std::process::ExitCode;
+
+#[path = "../files.rs"]
+mod files;
+
+fn main() -> ExitCode {
+    files::answer_all(plain::play_text)
+}
