@@ -3,6 +3,7 @@ ghost use Rattle.rules.specs.Sound.{Sound};
 use rules::Ends;
 use rules::Player;
 use rules::Sheet;
+use search::Progress;
 use std::alloc::AllocError;
 use std::alloc::Global;
 use std::env;
@@ -18,11 +19,14 @@ use tree::Place;
 use tree::Sight;
 use tree::Sizes;
 
-const HELP: &str = "usage: propose house|guest ROUNDS [FILE]
+const HELP: &str = "usage: propose house|guest|both ROUNDS [FILE]
 
-Reads a rule sheet and m from FILE, or from standard input where no file is named, and writes a plan for the house, or
-one for the guest as the house of the turned tree, to standard output.
+Reads a rule sheet and m from FILE, or from standard input where no file is named, and writes a plan to standard output.
+How far it is, it says on standard error.
 
+house    a plan for the house.
+guest    a plan for the guest, as the house of the turned tree.
+both     the rule sheet, m and both plans: a file for `reckon`.
 ROUNDS   how many rounds of learning there may be; 1000 is a good number.
 FILE     nine bytes of rule sheet and four bytes of m, low byte first. What follows them is not looked at.
 
@@ -31,6 +35,13 @@ A file that is turned away prints `refused NUMBER at PLACE` to standard error; d
 
 // There is memory for so many places, and for so many sights of each player.
 const ROOM: usize = 65536;
+
+// What is written: the plan of one player, or a file for `reckon` with both.
+#[derive(Clone, Copy)]
+enum Order {
+    Plan(Player),
+    File,
+}
 
 // Why there is no plan: a refusal, by its number and place, or no memory.
 #[derive(Clone, Copy)]
@@ -60,6 +71,18 @@ impl From<tree::Refusal> for Fault as FaultFromTree {
 impl From<plans::Refusal> for Fault as FaultFromPlans {
     fn from(e: plans::Refusal) -> Fault {
         Fault::Refused(e.number(), e.place())
+    }
+}
+
+// Progress as lines on standard error. One that cannot be written is left out.
+#[derive(Clone, Copy)]
+struct Lines<'a> {
+    rt: &'a LibcRuntime,
+}
+
+impl Progress for Lines<'_> as LinesProgress {
+    fn stage(&self, settled: usize, sights: usize) {
+        let _ = eprintln!(self.rt, "{settled} of {sights} sights settled");
     }
 }
 
@@ -105,7 +128,7 @@ fn base(sheet: Sheet, sizes: Sizes, chair: Player, bytes: &[u8]) -> Result<u32, 
 }
 
 // The bytes of a plan for the player in this chair.
-fn plan(heap: Global, chair: Player, rounds: u32, bytes: &[u8]) -> Result<Vec<u8>, Fault> {
+fn plan(rt: &LibcRuntime, heap: Global, chair: Player, rounds: u32, bytes: &[u8]) -> Result<Vec<u8>, Fault> {
     let sheet = rules::read(front(bytes))?;
     let mut nodes = vec![in heap; blank_node(); ROOM]?;
     let mut house = vec![in heap; blank_sight(); ROOM]?;
@@ -118,7 +141,29 @@ fn plan(heap: Global, chair: Player, rounds: u32, bytes: &[u8]) -> Result<Vec<u8
         Player::House => (house, guest),
         Player::Guest => (guest, house),
     };
-    Ok(search::plan(heap, nodes.as_slice(), own, others, sheet.raises, chair, m, rounds)?)
+    let lines = Lines { rt };
+    Ok(search::plan(heap, &lines, nodes.as_slice(), own, others, sheet.raises, chair, m, rounds)?)
+}
+
+// The bytes of the rule sheet and of m.
+fn opening(bytes: &[u8]) -> &[u8] {
+    if bytes.len() < 13 { bytes } else { &bytes[0..13] }
+}
+
+// The bytes that are asked for.
+fn ordered(rt: &LibcRuntime, heap: Global, order: Order, rounds: u32, bytes: &[u8]) -> Result<Vec<u8>, Fault> {
+    match order {
+        Order::Plan(chair) => plan(rt, heap, chair, rounds, bytes),
+        Order::File => {
+            let house = plan(rt, heap, Player::House, rounds, bytes)?;
+            let guest = plan(rt, heap, Player::Guest, rounds, bytes)?;
+            let mut file = Vec::new(heap);
+            file.extend_from_slice(opening(bytes))?;
+            file.extend_from_slice(house.as_slice())?;
+            file.extend_from_slice(guest.as_slice())?;
+            Ok(file)
+        }
+    }
 }
 
 // The bytes of the named file, or of standard input.
@@ -133,22 +178,23 @@ fn input(rt: &LibcRuntime, heap: Global, path: Option<String>) -> io::Result<Vec
     }
 }
 
-fn chair_of(word: &str) -> Option<Player> {
+fn order_of(word: &str) -> Option<Order> {
     match word {
-        "house" => Some(Player::House),
-        "guest" => Some(Player::Guest),
+        "house" => Some(Order::Plan(Player::House)),
+        "guest" => Some(Order::Plan(Player::Guest)),
+        "both" => Some(Order::File),
         _ => None,
     }
 }
 
-// Writes the plan, or says why there is none.
-fn answer(rt: &LibcRuntime, heap: Global, chair: Player, rounds: u32, path: Option<String>) -> Result<(), AnyError> {
+// Writes what is asked for, or says why it cannot be had.
+fn answer(rt: &LibcRuntime, heap: Global, order: Order, rounds: u32, path: Option<String>) -> Result<(), AnyError> {
     let Ok(bytes) = input(rt, heap, path) else {
         eprintln!(rt, "the file cannot be read")?;
         return Err("no file".into());
     };
-    match plan(heap, chair, rounds, bytes.as_slice()) {
-        Ok(plan) => Ok(rt.stdout().write_all(plan.as_slice())?),
+    match ordered(rt, heap, order, rounds, bytes.as_slice()) {
+        Ok(out) => Ok(rt.stdout().write_all(out.as_slice())?),
         Err(Fault::Refused(number, place)) => {
             eprintln!(rt, "refused {number} at {place}")?;
             Err("refused".into())
@@ -172,8 +218,8 @@ fn main(rt: LibcRuntime) -> Result<(), AnyError> {
         return Ok(rt.print(HELP)?);
     }
     if let Some(second) = args.next() {
-        if let (Some(chair), Ok(rounds)) = (chair_of(first.as_str()), second.as_str().parse::<u32>()) {
-            return answer(&rt, heap, chair, rounds, args.next());
+        if let (Some(order), Ok(rounds)) = (order_of(first.as_str()), second.as_str().parse::<u32>()) {
+            return answer(&rt, heap, order, rounds, args.next());
         }
     }
     rt.eprint(HELP)?;

@@ -25,6 +25,12 @@ const STAGES: u32 = 5;
 // No way through a tree is longer.
 const DEPTH: u8 = 40;
 
+// Who is told how far the search is.
+pub trait Progress {
+    // Weights are fixed at so many of the sights; the next share of the rounds begins.
+    fn stage(&self, settled: usize, sights: usize);
+}
+
 // A tree, the sights of the player that a plan is for, and those of the other.
 #[derive(Clone, Copy)]
 struct Game<'a> {
@@ -281,8 +287,9 @@ fn settle(plans: &mut [f64], first: usize, row: Row, m: u32) {
 }
 
 // A plan for the player in this chair, with weights of m, after at most so many rounds.
-pub fn propose<'x>(
+pub fn propose<'x, P: Progress>(
     heap: Global,
+    progress: &P,
     nodes: &'x [Node],
     own: &'x [Sight],
     others: &'x [Sight],
@@ -302,6 +309,7 @@ pub fn propose<'x>(
     let mut rows = Vec::new(heap);
     for (i, sight) in own.iter().enumerate() {
         if i % step == 0 {
+            progress.stage(i, own.len());
             learn(game, i, rounds / STAGES, plans.as_mut_slice(), regrets.as_mut_slice(), sums.as_mut_slice());
         }
         let row = rounded(sums.as_slice(), slot(0, i), sight.offers(raises), m);
@@ -349,8 +357,9 @@ pub fn encode(heap: Global, raises: u8, sights: &[Sight], rows: &[Row]) -> Resul
 }
 
 // The bytes of a plan for the player in this chair, which the reader of plans takes.
-pub fn plan<'x>(
+pub fn plan<'x, P: Progress>(
     heap: Global,
+    progress: &P,
     nodes: &'x [Node],
     own: &'x [Sight],
     others: &'x [Sight],
@@ -361,7 +370,7 @@ pub fn plan<'x>(
 ) -> Result<Vec<u8>, AllocError>
     ensures { λ r. ⌜ made r (λ v. (rows : List OneRow) × (planAs raises (now (own .entry)) m (vec-items v) ≡ Ok rows)) ⌝ }
 {
-    let rows = propose(heap, nodes, own, others, raises, chair, m, rounds)?;
+    let rows = propose(heap, progress, nodes, own, others, raises, chair, m, rounds)?;
     let bytes = encode(heap, raises, own, rows.as_slice())?;
     Ok(bytes)
 }

@@ -4,4 +4,4 @@ use Rattle.search.specs.Taken.{Taken}
 use Rattle.search.proofs.propose.Given as given
 
 abbrev pub Inv-loop-i : given.InvT-loop-i
-Inv-loop-i l = Taken (l .raises) (l .m) (take (l .i) (l .own)) (vec-items (l .rows))
+Inv-loop-i g l = Taken (l .raises) (l .m) (take (l .i) (l .own)) (vec-items (l .rows))
