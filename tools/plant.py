@@ -9,7 +9,7 @@ Contracts, loop invariants, types and comments are left as they are. Each bug is
 has been checked (rt check CRATE first) by `rt dev`, which takes over what it knows of the rest.
 
 A bug is refused where the checker answers `logic=not-proved`; it survives where the check passes; it is no program where
-the compiler turns it away (such ones are not counted). --list prints the bugs and tries none; --part takes each N-th
+the compiler turns it away, and has no answer where the check takes over half an hour (neither is counted). --list prints the bugs and tries none; --part takes each N-th
 one. The last line is `N planted, M refused, K survived`, with one line above it for each survivor.
 """
 
@@ -112,7 +112,7 @@ def trial(places, crate, source, whole):
             return "survived"
         return "refused" if "logic=not-proved" in out else "no program"
     except subprocess.TimeoutExpired:
-        return "refused"
+        return "no answer"
     finally:
         places.put(root)
 
@@ -143,7 +143,7 @@ def main():
         for number, (line, old, new, _) in chosen:
             print(f"{number} line {line}: {old} -> {new}")
         return 0
-    count = {"refused": 0, "survived": 0, "no program": 0}
+    count = {"refused": 0, "survived": 0, "no program": 0, "no answer": 0}
     with tempfile.TemporaryDirectory() as below, concurrent.futures.ThreadPoolExecutor(args.jobs) as pool:
         places = copies(args.jobs, below)
         tried = [(bug, pool.submit(trial, places, args.crate, source, bug[1][3])) for bug in chosen]
