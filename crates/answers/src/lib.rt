@@ -1,4 +1,7 @@
 // From the bytes of a file to the text that a program prints.
+
+#![tactic(auto)]
+
 ghost use Rattle.std.specs.Prelude.{◌≡◌, ℕ, ◌*◌, ◌≤◌, List, [], ◌++◌, length, take, drop, IfOk, Some, Ok, vec_len, string_bytes, MatchResult, OnOk};
 ghost use Rattle.answers.specs.Text.{number_of, place_of, refused, sized, kept as kept_as, shown as shown_as};
 ghost use Rattle.answers.specs.Files.{opened_in, past_m, plan_in, sized_rival, with_opening, reckoned_in, reckoned};

@@ -1,4 +1,7 @@
 // Two plans, one at each chair, held against each other: the tree turned round, the two sides in halves of 64 bits, and the verdict.
+
+#![tactic(auto)]
+
 ghost use Rattle.std.specs.Prelude.{◌≡◌, ℕ, ◌+◌, ◌*◌, ◌^◌, ◌<◌, map, Some, ◌==◌};
 ghost use Rattle.bracket.specs.Turned.{turned_place_as, turned_node, TurnedRows};
 ghost use Rattle.bracket.specs.Halves.{value_of};

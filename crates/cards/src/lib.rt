@@ -1,5 +1,8 @@
 // Games of two with chance and hidden cards, for any tree: the statements about them, each as the contract of a function
 // whose body only carries it. The statements are in specs/, their proofs in proofs/.
+
+#![tactic(auto)]
+
 ghost use Rattle.cards.specs.Promise.{HouseHolds, FloorHolds, WordsFall, OneWorst, Bracket, TurnBack, OneWordMore, LegalWayExists};
 ghost use Rattle.cards.specs.Rotating.{RotatingIsAFloor, RotatingFallsShort};
 ghost use Rattle.cards.specs.Apart.{SightsLieApart};

@@ -1,5 +1,8 @@
 // Prints what the reckoning and the playing program print for each case file: the files of data/, in reckon/ and play/, which the
 // arguments name. The expected text, in the crate's stdout, comes from an independent implementation.
+
+#![tactic(auto)]
+
 use std::{env, fs, io};
 
 fn main(rt: HostRuntime) -> io::Result<()> {

@@ -1,5 +1,8 @@
 // Tests of library calls with chosen memory: a tree or its sights that do not fit, a work row that is too short, a tree that is too
 // large; and that a refusal touches nothing.
+
+#![tactic(auto)]
+
 #[cfg(test)]
 mod tests {
     use rules::Ends;

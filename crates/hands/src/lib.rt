@@ -1,4 +1,7 @@
 // Hands by given choices and words, and matches as they lie in bytes.
+
+#![tactic(auto)]
+
 ghost use Rattle.std.specs.Prelude.{◌≡◌, ℕ, ◌+◌, ◌-◌, ◌*◌, ◌<◌, ◌≤◌, List, [], length, take, Some, None, MatchOption, nat_lt};
 ghost use Rattle.cards.specs.Game.{pick, Tree, Trees, Plan};
 ghost use Rattle.cards.specs.Promise.{Wells};

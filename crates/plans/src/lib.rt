@@ -1,4 +1,7 @@
 // Plans of the house: the number m below which words of chance lie, and the weights at each sight, read from bytes or refused.
+
+#![tactic(auto)]
+
 ghost use Rattle.std.specs.Prelude.{◌≡◌, ◌+◌, ◌*◌, ◌^◌, ◌<◌, ◌≤◌, length, drop, IfOk, Some, None, Ok, MatchResult, ◌==◌, nat_lt, slice_index};
 ghost use Rattle.cards.specs.Game.{pick, total};
 ghost use Rattle.rules.specs.Sound.{Sound};

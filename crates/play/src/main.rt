@@ -1,4 +1,7 @@
 // The program `play`: reads a file and prints a line for each of its hands, the text of `answers::play`.
+
+#![tactic(auto)]
+
 use anyhow::anyhow;
 use std::alloc::Global;
 use std::io::Read;

@@ -1,5 +1,8 @@
 // The program `propose`: reads a rule sheet and m, and writes the bytes of a plan. That the plan is taken, or why there is none, is the
 // promise of `answers::propose`.
+
+#![tactic(auto)]
+
 use answers::NoPlan;
 use anyhow::anyhow;
 use rules::Player;

@@ -1,4 +1,7 @@
 // The program `reckon`: reads a file and prints its answer, the text of `answers::reckon`.
+
+#![tactic(auto)]
+
 use anyhow::anyhow;
 use std::alloc::Global;
 use std::io::Read;

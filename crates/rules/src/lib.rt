@@ -1,4 +1,7 @@
 // Rule sheets: nine bytes, read or refused; and what holds of the game and the tree of every sheet, each as the contract of a function whose body only carries it.
+
+#![tactic(auto)]
+
 ghost use Rattle.std.specs.Prelude.{◌≡◌, IfOk};
 ghost use Rattle.rules.specs.Read.{read as read_as, ranged, number_of, place_of};
 ghost use Rattle.rules.specs.Sound.{Sound};

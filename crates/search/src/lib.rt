@@ -1,4 +1,7 @@
 // Proposes a plan for either chair. Nothing rests on how good it is; what it proposes is always taken by the reader of plans.
+
+#![tactic(auto)]
+
 ghost use Rattle.std.specs.Prelude.{◌≡◌, ℕ, ◌+◌, ◌*◌, ◌^◌, ◌<◌, ◌≤◌, List, ◌++◌, length, IfOk, Ok, OnOk};
 ghost use Rattle.plans.specs.Bytes.{plan_as};
 ghost use Rattle.plans.specs.declared.Row.{Row as OneRow};

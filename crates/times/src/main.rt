@@ -1,4 +1,7 @@
 // The program `times`: how long building a tree and reckoning a plan over it take.
+
+#![tactic(auto)]
+
 use answers::{Stage, Stages};
 use anyhow::anyhow;
 use std::time::Instant;

@@ -1,4 +1,7 @@
 // The tree of a rule sheet, laid out in lent memory.
+
+#![tactic(auto)]
+
 ghost use Rattle.std.specs.Prelude.{◌≡◌, ℕ, ◌+◌, ◌-◌, ◌*◌, ◌<◌, ◌≤◌, List, [], map, length, take, slice_index};
 ghost use Rattle.rules.specs.Play.{game, count as count_of, other as other_of, purse as purse_of, left as left_of, without};
 ghost use Rattle.rules.specs.Sound.{Sound};

@@ -1,4 +1,7 @@
 // The worst of a plan: the least that the guest can bring the house to, reckoned over the tree in memory.
+
+#![tactic(auto)]
+
 ghost use Rattle.std.specs.Prelude.{◌≡◌, ℕ, ◌+◌, ◌-◌, ◌*◌, ◌^◌, ◌<◌, ◌≤◌, List, length, replicate};
 ghost use Rattle.cards.specs.Floor.{Item};
 ghost use Rattle.cards.specs.Game.{Tree, Trees, many};
