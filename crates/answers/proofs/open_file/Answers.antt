@@ -12,35 +12,35 @@ use Rattle.answers.proofs.Openings.{admitted_fits, to_size, size_small}
 use Rattle.tree.specs.declared.Chair.{Chair}
 use Rattle.answers.proofs.open_file.Goals as goal
 
-pub returns-in-Ok-check-size : goal.returns-in-Ok-check-size
-returns-in-Ok-check-size c =
+pub returns-in-Ok-check_size : goal.returns-in-Ok-check_size
+returns-in-Ok-check_size c =
     let s = c.in-Ok.sheet in
-    let m = c.in-Ok-check-base.m in
+    let m = c.in-Ok-check_base.m in
     let y = c.measure.ensures.value in
     let R = c.args.room in
     let z = (admitted_fits c.in-Ok-admit.sizes c.measure.result R R R R c.in-Ok-admit.ensures).0 ∙ y in
     let f = (admitted_fits c.in-Ok-admit.sizes c.measure.result R R R R c.in-Ok-admit.ensures).1 in
-    let k = c.in-Ok-check-size.ensures ∙ ap (λ (v : Sizes). size_of v.table m v.house.words) z in
+    let k = c.in-Ok-check_size.ensures ∙ ap (λ (v : Sizes). size_of v.table m v.house.words) z in
     record {
       value =
           ap (λ v. Ok (record { sheet = s; sizes = v; m = m })) z
-          ∙ to_size c.args.room c.args.input.now s c.measure.result c.in-Ok-admit.sizes c.in-Some.number m (Ok c.in-Ok-check-size.field-0)
-          (c.in-Ok.ensures.value ∙ ap rules.read c.front.ensures) y c.in-Ok-admit.ensures (c.in-Some.ensures ∙ ap (λ l. front (numbers l)) c.past.ensures) c.in-Ok-check-base.ensures.value c.in-Ok-check-size.ensures;
+          ∙ to_size c.args.room c.args.input.now s c.measure.result c.in-Ok-admit.sizes c.in-Some.number m (Ok c.in-Ok-check_size.field-0)
+          (c.in-Ok.ensures.value ∙ ap rules.read c.front.ensures) y c.in-Ok-admit.ensures (c.in-Some.ensures ∙ ap (λ l. front (numbers l)) c.past.ensures) c.in-Ok-check_base.ensures.value c.in-Ok-check_size.ensures;
       ready = record {
         sound = c.in-Ok.ensures.sound;
         sizes_are = z;
         few = (let a = f.few in let e = ap (λ (v : Sizes). v.places) y in omega (arith, a, e));
         few_house = (let a = f.house in let e = ap (λ (v : Sizes). v.house.sights) y in omega (arith, a, e, c.ranges.room));
         few_guest = (let a = f.guest in let e = ap (λ (v : Sizes). v.guest.sights) y in omega (arith, a, e, c.ranges.room));
-        based = c.in-Ok-check-base.ensures.based;
-        small = size_small _ m _ c.in-Ok-check-size.field-0 k;
+        based = c.in-Ok-check_base.ensures.based;
+        small = size_small _ m _ c.in-Ok-check_size.field-0 k;
       };
     }
 
-pub returns-in-Err-check-size : goal.returns-in-Err-check-size
-returns-in-Err-check-size c = record {
+pub returns-in-Err-check_size : goal.returns-in-Err-check_size
+returns-in-Err-check_size c = record {
   value =
-      to_size c.args.room c.args.input.now c.in-Ok.sheet c.measure.result c.in-Ok-admit.sizes c.in-Some.number c.in-Ok-check-base.m _
-      (c.in-Ok.ensures.value ∙ ap rules.read c.front.ensures) c.measure.ensures.value c.in-Ok-admit.ensures (c.in-Some.ensures ∙ ap (λ l. front (numbers l)) c.past.ensures) c.in-Ok-check-base.ensures.value c.in-Err-check-size.ensures;
+      to_size c.args.room c.args.input.now c.in-Ok.sheet c.measure.result c.in-Ok-admit.sizes c.in-Some.number c.in-Ok-check_base.m _
+      (c.in-Ok.ensures.value ∙ ap rules.read c.front.ensures) c.measure.ensures.value c.in-Ok-admit.ensures (c.in-Some.ensures ∙ ap (λ l. front (numbers l)) c.past.ensures) c.in-Ok-check_base.ensures.value c.in-Err-check_size.ensures;
   ready = tt;
 }

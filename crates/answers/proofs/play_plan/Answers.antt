@@ -12,22 +12,22 @@ use Rattle.answers.proofs.Wholes.{laid_at, few_nodes, few_sights, to_plan, read_
 use Rattle.answers.proofs.Tables.{printed}
 use Rattle.answers.proofs.play_plan.Goals as goal
 
-pub plan-bytes-n-requires : goal.plan-bytes-n-requires
-plan-bytes-n-requires c = let a = few_sights c.args.o c.requires.ready House in let b = ap length c.requires.ours in omega (arith, a, b)
+pub plan_bytes-n-requires : goal.plan_bytes-n-requires
+plan_bytes-n-requires c = let a = few_sights c.args.o c.requires.ready House in let b = ap length c.requires.ours in omega (arith, a, b)
 
-pub read-plan-requires : goal.read-plan-requires
-read-plan-requires c = let a = few_sights c.args.o c.requires.ready House in let b = ap length c.requires.ours in omega (arith, a, b)
+pub read_plan-requires : goal.read_plan-requires
+read_plan-requires c = let a = few_sights c.args.o c.requires.ready House in let b = ap length c.requires.ours in omega (arith, a, b)
 
 pub returns-in-Err-Refused : goal.returns-in-Err-Refused
 returns-in-Err-Refused c =
     let o = c.args.o in
     let q : plan_as o.sheet.raises c.args.ours.now o.m c.front.result.now ≡ Err c.in-Err-Refused.e = search rules in
-    IfOk-weaker c.refusal-line.result _ _
-    (λ s e. e ∙ ap (λ x. line (refused (OfPlan x)) []) c.in-Err-Refused.e-is ∙ to_plan o c.requires.ready (play_plan o) (Err c.in-Err-Refused.e) _ c.plan-bytes-n.result c.args.rest.now _ c.requires.ours c.plan-bytes-n.ensures c.front.ensures q)
-    c.refusal-line.ensures
+    IfOk-weaker c.refusal_line.result _ _
+    (λ s e. e ∙ ap (λ x. line (refused (OfPlan x)) []) c.in-Err-Refused.e-is ∙ to_plan o c.requires.ready (play_plan o) (Err c.in-Err-Refused.e) _ c.plan_bytes-n.result c.args.rest.now _ c.requires.ours c.plan_bytes-n.ensures c.front.ensures q)
+    c.refusal_line.ensures
 
-pub write-hands-requires : goal.write-hands-requires
-write-hands-requires c = record {
+pub write_hands-requires : goal.write_hands-requires
+write_hands-requires c = record {
   k = _;
   n = _;
   c = _;
@@ -37,12 +37,12 @@ write-hands-requires c = record {
   small = few_nodes c.args.o c.requires.ready c.args.nodes.now c.requires.room;
 }
 
-pub returns-in-Ok-write-hands : goal.returns-in-Ok-write-hands
-returns-in-Ok-write-hands c =
+pub returns-in-Ok-write_hands : goal.returns-in-Ok-write_hands
+returns-in-Ok-write_hands c =
     let o = c.args.o in
     let r = c.requires.ready in
     let read = read_here o r _ _ _ c.requires.ours c.in-Ok.ensures in
     let l = laid_at o r _ (vec_items c.in-Ok.rows) _ c.args.nodes.now read c.deref.ensures.value c.requires.tree in
-    printed o (vec_items c.in-Ok.rows) _ _ _ c.past.result.now c.new-out.ensures.bytes c.deref.ensures.value (c.in-Ok-write-hands.ensures _ _ _ _ _ l)
+    printed o (vec_items c.in-Ok.rows) _ _ _ c.past.result.now c.new-out.ensures.bytes c.deref.ensures.value (c.in-Ok-write_hands.ensures _ _ _ _ _ l)
     ∙ ap (λ v. play_plan o v (Ok (vec_items c.in-Ok.rows))) c.past.ensures
-    ∙ to_plan o r (play_plan o) (Ok (vec_items c.in-Ok.rows)) _ c.plan-bytes-n.result c.args.rest.now _ c.requires.ours c.plan-bytes-n.ensures c.front.ensures c.in-Ok.ensures
+    ∙ to_plan o r (play_plan o) (Ok (vec_items c.in-Ok.rows)) _ c.plan_bytes-n.result c.args.rest.now _ c.requires.ours c.plan_bytes-n.ensures c.front.ensures c.in-Ok.ensures

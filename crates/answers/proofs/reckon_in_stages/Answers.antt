@@ -3,9 +3,9 @@ use Rattle.std.proofs.lemmas.Result.{err_from_is_err_and}
 use Rattle.answers.proofs.Promises.{reckons}
 use Rattle.answers.proofs.reckon_in_stages.Goals as goal
 
-pub returns-in-err-answer : goal.returns-in-err-answer
-returns-in-err-answer g c = record {
-  text = (let p = err_from_is_err_and c.from-residual.result c.from-residual.ensures.1 in rw p.1 tt);
+pub returns-in_err-answer : goal.returns-in_err-answer
+returns-in_err-answer g c = record {
+  text = (let p = err_from_is_err_and c.from_residual.result c.from_residual.ensures.1 in rw p.1 tt);
   promised = reckons _ _ (let h = c.ranges.room in omega (arith, h));
 }
 

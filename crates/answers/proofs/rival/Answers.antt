@@ -14,8 +14,8 @@ use Rattle.answers.specs.Files.{kept_by, both, with_rival, sized_rival}
 use Rattle.answers.proofs.Wholes.{rival_whole, kept_is, low_house, low_guest, few_sights, words_there, table_is, rival_small, power_small, some_table}
 use Rattle.answers.proofs.rival.Goals as goal
 
-pub read-plan-requires : goal.read-plan-requires
-read-plan-requires c = let a = few_sights c.args.o c.requires.ready Guest in let b = ap length c.requires.sights in omega (arith, a, b)
+pub read_plan-requires : goal.read_plan-requires
+read_plan-requires c = let a = few_sights c.args.o c.requires.ready Guest in let b = ap length c.requires.sights in omega (arith, a, b)
 
 -- the plan as it was read, with the game's own sights
 read : (x m : ℕ) (zs gs : List Sight) (bytes : List ℕ) (res : Result (List Row) P.Refusal) → zs ≡ gs → plan_as x zs m bytes ≡ res → plan_as x gs m bytes ≡ res
@@ -28,8 +28,8 @@ keep-other-requires c = record {
   counts = _;
   choices = _;
   whole =
-      rival_whole c.args.o c.requires.ready c.args.plan.now (vec_items c.in-Ok.rows) _ c.args.nodes.now _ _ c.in-default.field-0
-      (read _ _ _ _ _ _ c.requires.sights c.in-Ok.ensures) c.deref.ensures.value c.requires.rooms.1 c.in-default.ensures c.requires.tree c.turn.ensures c.requires.rooms.0;
+      rival_whole c.args.o c.requires.ready c.args.plan.now (vec_items c.in-Ok.rows) _ c.args.nodes.now _ _ c.in_default.field-0
+      (read _ _ _ _ _ _ c.requires.sights c.in-Ok.ensures) c.deref.ensures.value c.requires.rooms.1 c.in_default.ensures c.requires.tree c.turn.ensures c.requires.rooms.0;
 }
 
 pub bracket-verdict-requires : goal.bracket-verdict-requires
@@ -38,11 +38,11 @@ bracket-verdict-requires c =
     let r = c.requires.ready in
     let q = c.requires.kept in
     let plan = read _ _ _ _ _ _ c.requires.sights c.in-Ok.ensures in
-    let w = rival_whole o r c.args.plan.now (vec_items c.in-Ok.rows) _ c.args.nodes.now _ _ c.in-default.field-0 plan c.deref.ensures.value c.requires.rooms.1 c.in-default.ensures c.requires.tree c.turn.ensures c.requires.rooms.0 in
+    let w = rival_whole o r c.args.plan.now (vec_items c.in-Ok.rows) _ c.args.nodes.now _ _ c.in_default.field-0 plan c.deref.ensures.value c.requires.rooms.1 c.in_default.ensures c.requires.tree c.turn.ensures c.requires.rooms.0 in
     let k = kept_is o r Guest (vec_items c.in-Ok.rows) _ _ _ _ c.keep-other.result c.deref.ensures.value (words_there o r) w c.keep-other.ensures in
     let v = low_house o r q.bytes c.args.plan.now q.rows (vec_items c.in-Ok.rows) q.read plan in
     let u = low_guest o r q.bytes c.args.plan.now q.rows (vec_items c.in-Ok.rows) q.read plan in
-    let small = rival_small o r c.in-default.field-0 c.in-default.ensures in
+    let small = rival_small o r c.in_default.field-0 c.in_default.ensures in
     let kv = ap (λ (x : Kept). x.worst) q.is in
     let kh = ap (λ (x : Kept). x.hands) q.is in
     let ou = ap (λ (x : Kept). x.worst) k in
@@ -55,8 +55,8 @@ returns c =
     let o = c.args.o in
     let r = c.requires.ready in
     let plan = read _ _ _ _ _ _ c.requires.sights c.in-Ok.ensures in
-    let w = rival_whole o r c.args.plan.now (vec_items c.in-Ok.rows) _ c.args.nodes.now _ _ c.in-default.field-0 plan c.deref.ensures.value c.requires.rooms.1 c.in-default.ensures c.requires.tree c.turn.ensures c.requires.rooms.0 in
+    let w = rival_whole o r c.args.plan.now (vec_items c.in-Ok.rows) _ c.args.nodes.now _ _ c.in_default.field-0 plan c.deref.ensures.value c.requires.rooms.1 c.in_default.ensures c.requires.tree c.turn.ensures c.requires.rooms.0 in
     let k = kept_is o r Guest (vec_items c.in-Ok.rows) _ _ _ _ c.keep-other.result c.deref.ensures.value (words_there o r) w c.keep-other.ensures in
-    let size = c.in-default.ensures ∙ ap (size_of o.sizes.table o.m) (words_there o r) in
+    let size = c.in_default.ensures ∙ ap (size_of o.sizes.table o.m) (words_there o r) in
     ap (Both o.sizes c.args.kept c.keep-other.result) c.bracket-verdict.ensures
     ∙ ap (both o c.args.kept) k ∙ ap (with_rival o c.args.kept) (sym plan) ∙ ap (sized_rival o c.args.kept c.args.plan.now) size

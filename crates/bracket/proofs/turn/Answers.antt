@@ -11,7 +11,7 @@ loop-i-preserved c =
     let i = c.loop-i.i in
     let x = node_at ns i in
     let h : i < length ns = omega arith in
-    ap (λ p. set ns i (node p x.share x.size)) c.turned-place.ensures
+    ap (λ p. set ns i (node p x.share x.size)) c.turned_place.ensures
     ∙ map_over_more turned_node c.args.nodes.now ns i x c.loop-i-test.true c.loop-i.invariant (get_or_default ns i _ x h)
 
 pub returns : goal.returns

@@ -14,14 +14,14 @@ loop-at-preserved c = past_more c.args.nodes.now c.args.first c.args.end c.args.
 pub returns : goal.returns
 returns c = past_gone c.args.nodes.now c.args.first c.args.end c.args.choice c.loop-at.at c.loop-at.left c.loop-at.invariant c.loop-at-test.false
 
-pub offset-bounds-nodes-at : goal.offset-bounds-nodes-at
-offset-bounds-nodes-at c = let s = past_sure c.args.nodes.now c.args.first c.args.end c.args.choice c.loop-at.at c.loop-at.left c.requires c.loop-at.invariant c.loop-at-test.true in search rules
+pub offset_bounds-nodes-at : goal.offset_bounds-nodes-at
+offset_bounds-nodes-at c = let s = past_sure c.args.nodes.now c.args.first c.args.end c.args.choice c.loop-at.at c.loop-at.left c.requires c.loop-at.invariant c.loop-at-test.true in search rules
 
 pub bounds-nodes-at : goal.bounds-nodes-at
 bounds-nodes-at c = (past_sure c.args.nodes.now c.args.first c.args.end c.args.choice c.loop-at.at c.loop-at.left c.requires c.loop-at.invariant c.loop-at-test.true).inside
 
-pub overflow-add-at : goal.overflow-add-at
-overflow-add-at c = let s = past_sure c.args.nodes.now c.args.first c.args.end c.args.choice c.loop-at.at c.loop-at.left c.requires c.loop-at.invariant c.loop-at-test.true in search rules
+pub overflow_add-at : goal.overflow_add-at
+overflow_add-at c = let s = past_sure c.args.nodes.now c.args.first c.args.end c.args.choice c.loop-at.at c.loop-at.left c.requires c.loop-at.invariant c.loop-at-test.true in search rules
 
 pub loop-at-smaller : goal.loop-at-smaller
 loop-at-smaller c =

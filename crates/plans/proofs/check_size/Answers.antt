@@ -8,12 +8,12 @@ use Rattle.plans.proofs.check_size.Goals as goal
 pub loop-i-init : goal.loop-i-init
 loop-i-init c = (sym (ap (λ x. c.args.table * x) (pow-zero c.args.m) ∙ mul-one c.args.table), omega arith)
 
-pub returns-in-default : goal.returns-in-default
-returns-in-default c =
+pub returns-in_default : goal.returns-in_default
+returns-in_default c =
     let t = c.args.table in
     let m = c.args.m in
     let i = c.loop-i.i in
-    let h = ltb-false _ _ (none_picked _ _ c.in-default.ensures) in
+    let h = ltb-false _ _ (none_picked _ _ c.in_default.ensures) in
     let e = ap (λ p. p * m) c.loop-i.invariant.0 in
     let l : 2 ^ 62 ≤ t * m ^ i * m = omega (arith, h, e) in
     held_past _ _ _ _ (power_past (2 ^ 62) t m i c.args.words c.requires c.loop-i-test.true l)

@@ -4,8 +4,8 @@ use Rattle.plans.specs.Bytes.{row_of}
 use Rattle.plans.proofs.Reading.{no_sight, left_all, left_room, left_more, left_odd, offers_most, offers_least, sum_right, sum_wrong}
 use Rattle.plans.proofs.read_plan.Goals as goal
 
-pub row-at-requires : goal.row-at-requires
-row-at-requires c =
+pub row_at-requires : goal.row_at-requires
+row_at-requires c =
     let x = c.args.raises in
     let zs = c.args.sights.now in
     let i = c.loop-i.i in
@@ -14,10 +14,10 @@ row-at-requires c =
     let least = offers_least x (get_or zs i no_sight) in
     (left_room x zs c.args.m c.args.bytes.now i _ _ c.loop-i.invariant no_sight c.loop-i-test.true _ e, (omega (arith, e, least), omega (arith, e, most)))
 
-pub returns-in-default : goal.returns-in-default
-returns-in-default c =
+pub returns-in_default : goal.returns-in_default
+returns-in_default c =
     left_odd c.args.raises c.args.sights.now c.args.m c.args.bytes.now c.loop-i.i _ _ c.loop-i.invariant no_sight c.loop-i-test.true _ c.offers-offers.ensures
-    c.row-at.result c.row-at.ensures (sum_wrong c.row-at.result c.args.m c.in-default.ensures)
+    c.row_at.result c.row_at.ensures (sum_wrong c.row_at.result c.args.m c.in_default.ensures)
 
 pub loop-i-preserved : goal.loop-i-preserved
 loop-i-preserved c =
@@ -27,9 +27,9 @@ loop-i-preserved c =
     let bytes = c.args.bytes.now in
     let i = c.loop-i.i in
     let s = row_of c.offers-offers.result (numbers (drop c.loop-i.at bytes)) in
-    let q = sum_right c.in-Some.row c.row-at.result s m c.in-Some.ensures c.row-at.ensures in
+    let q = sum_right c.in-Some.row c.row_at.result s m c.in-Some.ensures c.row_at.ensures in
     left_more x zs m bytes i c.loop-i.at (vec_items c.loop-i.rows) c.loop-i.invariant no_sight c.loop-i-test.true c.offers-offers.result c.offers-offers.ensures
-    c.in-Some.row q.0 q.1 (vec_items c.push.new.self) c.in-ok-push.ensures.items
+    c.in-Some.row q.0 q.1 (vec_items c.push.new.self) c.in_ok-push.ensures.items
 
 pub returns : goal.returns
 returns c = left_all c.args.raises c.args.sights.now c.args.m c.args.bytes.now c.loop-i.i _ _ c.loop-i.invariant c.loop-i-test.false

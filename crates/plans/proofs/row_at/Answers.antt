@@ -3,8 +3,8 @@ use Rattle.plans.proofs.row_at.Goals as goal
 
 pub returns-then-offers-gt2 : goal.returns-then-offers-gt2
 returns-then-offers-gt2 c =
-    row_three c.args.bytes.now c.args.at _ c.if-offers-gt2.true _ _ _ c.number-at-first.ensures c.number-at-second.ensures c.number-at-third.ensures
+    row_three c.args.bytes.now c.args.at _ c.if-offers-gt2.true _ _ _ c.number_at-first.ensures c.number_at-second.ensures c.number_at-third.ensures
 
 pub returns-else-offers-gt2 : goal.returns-else-offers-gt2
 returns-else-offers-gt2 c =
-    row_two c.args.bytes.now c.args.at _ c.if-offers-gt2.false _ _ c.number-at-first.ensures c.number-at-second.ensures
+    row_two c.args.bytes.now c.args.at _ c.if-offers-gt2.false _ _ c.number_at-first.ensures c.number_at-second.ensures

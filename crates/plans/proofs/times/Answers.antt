@@ -2,8 +2,8 @@ use Rattle.std.proofs.Common.{◌*◌, ◌^◌, ◌<◌, ◌≤◌, arith}
 use Rattle.plans.proofs.Products.{product_fits, product_past, picked_below, picked_past}
 use Rattle.plans.proofs.times.Goals as goal
 
-pub overflow-mul-result : goal.overflow-mul-result
-overflow-mul-result c = let h = product_fits _ _ _ c.if-p-m.true in omega (arith, h)
+pub overflow_mul-result : goal.overflow_mul-result
+overflow_mul-result c = let h = product_fits _ _ _ c.if-p-m.true in omega (arith, h)
 
 pub returns-then-p-m : goal.returns-then-p-m
 returns-then-p-m c =

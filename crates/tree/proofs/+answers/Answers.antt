@@ -69,7 +69,7 @@ returns g t c =
     let W = c.args.who in
     let H = c.args.hand in
     let e = called_is P B then W H c.acted.result c.due-owed.result c.due-owed.ensures c.acted.ensures in
-    let a = carry 0 (at + 1) _ _ _ (folded_is P B then W c.other.result H c.won-by.result c.other.ensures c.won-by.ensures) c.over-k.ensures in
+    let a = carry 0 (at + 1) _ _ _ (folded_is P B then W c.other.result H c.won_by.result c.other.ensures c.won_by.ensures) c.over-k.ensures in
     let b = carry 0 _ _ _ _ (ap then e) c.follow-k.ensures in
     elim c.if-raises-gt0.branch [
       | then-raises-gt0 w ↦
@@ -82,8 +82,8 @@ returns g t c =
           (last_written P B then c.args.raises W H at _ _ _ _ _ c.choice.result _ w.if-raises-gt0.false c.requires.room a b c.choice.ensures refl c.over-k.auto.out)
     ]
 
-pub overflow-cast-out : goal.overflow-cast-out
-overflow-cast-out g t c = omega (arith, (returns g t c).ends, c.requires.room, c.requires.small)
+pub overflow_cast-out : goal.overflow_cast-out
+overflow_cast-out g t c = omega (arith, (returns g t c).ends, c.requires.room, c.requires.small)
 
 pub bounds-out-at : goal.bounds-out-at
 bounds-out-at g t c =

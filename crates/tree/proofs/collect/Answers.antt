@@ -10,7 +10,7 @@ use Rattle.tree.proofs.Put.{put_nil}
 use Rattle.tree.proofs.Sees.{noted_none, noted_same, noted_push, list, list_pass, list_old, list_new, list_most}
 use Rattle.tree.proofs.Tables.{tabled_new, tabled_same, entry_none, entry_some}
 use Rattle.tree.proofs.collect.Goals as goal
-use Rattle.tree.proofs.collect.Goals.{in-Some+then-table-k-eq0, in-Some+else-table-k-eq0, in-default}
+use Rattle.tree.proofs.collect.Goals.{in-Some+then-table-k-eq0, in-Some+else-table-k-eq0, in_default}
 
 pub loop-i-init : goal.loop-i-init
 loop-i-init c = (noted_none _ (put_nil _ 0), (omega arith, λ z r. c.requires.zeros _))
@@ -30,13 +30,13 @@ fresh W N I d z t n room h e at zero en l =
 
 pub bounds-table-k : goal.bounds-table-k
 bounds-table-k c =
-    let seen = sym c.seen-at.ensures ∙ c.in-Some.is in
+    let seen = sym c.seen_at.ensures ∙ c.in-Some.is in
     let r = c.requires.ranged c.loop-i.i c.in-Some.z c.loop-i-test.true seen in
     omega (arith, r.inside, c.slot-k.ensures, c.loop-i.auto.table)
 
 pub bounds-sights-n : goal.bounds-sights-n
 bounds-sights-n c =
-    let seen = sym c.seen-at.ensures ∙ c.in-Some.is in
+    let seen = sym c.seen_at.ensures ∙ c.in-Some.is in
     let r = c.requires.ranged c.loop-i.i c.in-Some.z c.loop-i-test.true seen in
     let at = ap (λ k. get_or c.loop-i.table k 0) c.slot-k.ensures ∙ c.loop-i.invariant.1.1 c.in-Some.z r in
     let f = fresh c.args.who c.args.nodes.now c.loop-i.i _ c.in-Some.z _ c.loop-i.n _ c.loop-i-test.true seen at c.if-table-k-eq0.true c.loop-i.invariant.0.count c.requires.room in
@@ -50,9 +50,9 @@ loop-i-preserved c =
     let S = length c.args.table.now in
     let q = c.loop-i.invariant.0 in
     let tab = c.loop-i.invariant.1.1 in
-    elim c.match-seen-at.branch [
+    elim c.match-seen_at.branch [
       | in-Some+then-table-k-eq0 w ↦
-          (let seen = sym c.seen-at.ensures ∙ w.in-Some.is in
+          (let seen = sym c.seen_at.ensures ∙ w.in-Some.is in
           let r = c.requires.ranged I w.in-Some.z c.loop-i-test.true seen in
           let at = ap (λ k. get_or c.loop-i.table k 0) w.slot-k.ensures ∙ tab w.in-Some.z r in
           let f = fresh W N I _ w.in-Some.z _ c.loop-i.n _ c.loop-i-test.true seen at w.if-table-k-eq0.true q.count c.requires.room in (
@@ -64,15 +64,15 @@ loop-i-preserved c =
             ),
           ))
       | in-Some+else-table-k-eq0 w ↦
-          (let seen = sym c.seen-at.ensures ∙ w.in-Some.is in
+          (let seen = sym c.seen_at.ensures ∙ w.in-Some.is in
           let r = c.requires.ranged I w.in-Some.z c.loop-i-test.true seen in
           let at = ap (λ k. get_or c.loop-i.table k 0) w.slot-k.ensures ∙ tab w.in-Some.z r in
           let same = list_old W N I _ w.in-Some.z c.loop-i-test.true seen (entry_some w.in-Some.z (list W N I) _ at w.if-table-k-eq0.false) in (
             meet _ _ _ _ _ _ w.sights-is w.n-is (noted_same (list W N I) (list W N (I + 1)) _ _ _ same q),
             (omega (arith, w.n-is, c.loop-i.invariant.1.0), tabled_same S _ _ (list W N I) (list W N (I + 1)) w.table-is same tab),
           ))
-      | in-default w ↦
-          (let same = list_pass W N I _ c.loop-i-test.true (sym c.seen-at.ensures ∙ w.in-default.is) in (
+      | in_default w ↦
+          (let same = list_pass W N I _ c.loop-i-test.true (sym c.seen_at.ensures ∙ w.in_default.is) in (
             meet _ _ _ _ _ _ w.sights-is w.n-is (noted_same (list W N I) (list W N (I + 1)) _ _ _ same q),
             (omega (arith, w.n-is, c.loop-i.invariant.1.0), tabled_same S _ _ (list W N I) (list W N (I + 1)) w.table-is same tab),
           ))

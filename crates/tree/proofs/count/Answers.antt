@@ -16,8 +16,8 @@ loop-a-preserved c =
     elim c.if-deck-a-gt0.branch [
       | then-deck-a-gt0 w ↦
           (let h = size_more (second_card s D) D c.loop-a.a i w.if-deck-a-gt0.true in
-          let e = w.count-guest-n.ensures.0 c.loop-a.a ∙ ap (λ d. size (guest_card s d c.loop-a.a)) w.drawn.ensures in
-          (omega (arith, h, e, w.n-is, c.loop-a.invariant.0), omega (arith, w.n-is, c.loop-a.invariant.1, w.count-guest-n.ensures.1)))
+          let e = w.count_guest-n.ensures.0 c.loop-a.a ∙ ap (λ d. size (guest_card s d c.loop-a.a)) w.drawn.ensures in
+          (omega (arith, h, e, w.n-is, c.loop-a.invariant.0), omega (arith, w.n-is, c.loop-a.invariant.1, w.count_guest-n.ensures.1)))
       | else-deck-a-gt0 w ↦
           (let h = size_skip (second_card s D) D c.loop-a.a i w.if-deck-a-gt0.false in
           (omega (arith, h, w.n-is, c.loop-a.invariant.0), omega (arith, w.n-is, c.loop-a.invariant.1)))

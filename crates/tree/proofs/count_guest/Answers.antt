@@ -21,9 +21,9 @@ loop-b-preserved c =
             let after : ℕ → Play = λ b. first_as s (take s.ranks (without b D)) (sits s.bets.ante a b) in
             let h = size_more after D c.loop-b.b i w.if-deck-b-gt0.true in
             let f = first_size_is s (take s.ranks (without c.loop-b.b D)) (sits s.bets.ante a c.loop-b.b) in
-            let e = w.count-first-n.ensures.0 ∙ ap (λ d. first_size s (take s.ranks d)) w.drawn.ensures in
+            let e = w.count_first-n.ensures.0 ∙ ap (λ d. first_size s (take s.ranks d)) w.drawn.ensures in
             omega (arith, h, f, e, w.n-is, c.loop-b.invariant.0 a)),
-        omega (arith, w.n-is, c.loop-b.invariant.1, w.count-first-n.ensures.1),
+        omega (arith, w.n-is, c.loop-b.invariant.1, w.count_first-n.ensures.1),
       )
       | else-deck-b-gt0 w ↦ (
         (λ a.

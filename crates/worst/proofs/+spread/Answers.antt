@@ -8,16 +8,16 @@ pub bounds-nodes-e : goal.bounds-nodes-e
 bounds-nodes-e t c =
     rep_inside _ _ _ _ _ c.requires.ready.ready.rep
 
-pub overflow-add-at : goal.overflow-add-at
-overflow-add-at t c =
+pub overflow_add-at : goal.overflow_add-at
+overflow_add-at t c =
     let h = rep_inside _ _ _ _ _ c.requires.ready.ready.rep in let f = c.requires.ready.ready.bounds.few in omega arith
 
 pub loop-at-init : goal.loop-at-init
 loop-at-init t c =
     λ w tree q x. mid_none w _ _ _ _ _ _ x.rest x.trees x.weights _
 
-pub overflow-add-e : goal.overflow-add-e
-overflow-add-e t c =
+pub overflow_add-e : goal.overflow_add-e
+overflow_add-e t c =
     let h = rep_end _ _ _ _ _ c.requires.ready.ready.rep in
     let s = rep_size _ _ _ _ _ c.requires.ready.ready.rep in
     let f = c.requires.ready.ready.bounds.few in omega arith
@@ -26,14 +26,14 @@ pub weight-w-requires : goal.weight-w-requires
 weight-w-requires t c =
     mid_weighable _ _ _ _ _ _ _ _ _ _ _ c.requires.ready c.requires.chance c.loop-at.invariant c.loop-at-test.true
 
-pub overflow-mul-kid : goal.overflow-mul-kid
-overflow-mul-kid t c =
+pub overflow_mul-kid : goal.overflow_mul-kid
+overflow_mul-kid t c =
     let h =
     plain _ _ _ _ _ _ _ _ _ _ _ _ c.requires.ready c.requires.chance c.loop-at.invariant c.loop-at.auto.work c.loop-at-test.true c.weight-w.ensures in
     omega (arith, h.facts.times)
 
-pub overflow-sub-kid : goal.overflow-sub-kid
-overflow-sub-kid t c =
+pub overflow_sub-kid : goal.overflow_sub-kid
+overflow_sub-kid t c =
     let h =
     plain _ _ _ _ _ _ _ _ _ _ _ _ c.requires.ready c.requires.chance c.loop-at.invariant c.loop-at.auto.work c.loop-at-test.true c.weight-w.ensures in
     omega (arith, h.facts.left)
@@ -52,8 +52,8 @@ settle-next-requires t c =
     plain _ _ _ _ _ _ _ _ _ _ _ _ c.requires.ready c.requires.chance c.loop-at.invariant c.loop-at.auto.work c.loop-at-test.true c.weight-w.ensures in
     settles_of _ c.args.rows.now c.args.m _ _ _ _ (record { told = h.told; tree = h.tree; ready = h.facts.ready }) c.in-Over.is
 
-pub overflow-add-grown : goal.overflow-add-grown
-overflow-add-grown t c =
+pub overflow_add-grown : goal.overflow_add-grown
+overflow_add-grown t c =
     let h = next_sum _ _ _ _ _ _ _ _ _ _ _ c.requires.ready c.requires.chance (next_mid _ _ _ _ _ _ _ _ _ _ _ _ _ _ c.loop-at.invariant c.loop-at.auto.work c.loop-at-test.true c.weight-w.ensures (elim c.match-node.branch [
       | in-Deal w ↦ met _ _ _ _ _ _ _ _ _ _ _ w.work-is w.next-is w.spread-next.ensures
       | in-Over w ↦ met _ _ _ _ _ _ _ _ _ _ _ w.work-is w.next-is (settle_spreads _ _ _ _ _ _ _ _ _ w.in-Over.is w.settle-next.ensures.answer w.settle-next.ensures.after)
@@ -66,14 +66,14 @@ bounds-nodes-at t c =
     plain _ _ _ _ _ _ _ _ _ _ _ _ c.requires.ready c.requires.chance c.loop-at.invariant c.loop-at.auto.work c.loop-at-test.true c.weight-w.ensures in
     h.facts.inside
 
-pub overflow-add-at-in-loop-at : goal.overflow-add-at-in-loop-at
-overflow-add-at-in-loop-at t c =
+pub overflow_add-at-in-loop-at : goal.overflow_add-at-in-loop-at
+overflow_add-at-in-loop-at t c =
     let h =
     plain _ _ _ _ _ _ _ _ _ _ _ _ c.requires.ready c.requires.chance c.loop-at.invariant c.loop-at.auto.work c.loop-at-test.true c.weight-w.ensures in
     omega (arith, h.facts.past, h.facts.few)
 
-pub overflow-add-k : goal.overflow-add-k
-overflow-add-k t c =
+pub overflow_add-k : goal.overflow_add-k
+overflow_add-k t c =
     let h =
     plain _ _ _ _ _ _ _ _ _ _ _ _ c.requires.ready c.requires.chance c.loop-at.invariant c.loop-at.auto.work c.loop-at-test.true c.weight-w.ensures in
     omega (arith, h.facts.count, h.facts.few)

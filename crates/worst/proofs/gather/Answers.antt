@@ -8,8 +8,8 @@ use Rattle.worst.proofs.gather.Goals.{in-Deal, in-Over}
 pub loop-j-init : goal.loop-j-init
 loop-j-init c = step_none _ _ _ _ _ _ _
 
-pub overflow-add-e : goal.overflow-add-e
-overflow-add-e c = let h = step_inside _ _ _ _ _ _ _ _ _ _ c.requires c.loop-j.invariant c.loop-j-test.true in omega (arith, h.1)
+pub overflow_add-e : goal.overflow_add-e
+overflow_add-e c = let h = step_inside _ _ _ _ _ _ _ _ _ _ c.requires c.loop-j.invariant c.loop-j-test.true in omega (arith, h.1)
 
 pub child-at-requires : goal.child-at-requires
 child-at-requires c = step_kid _ _ _ _ _ _ _ _ _ _ c.requires c.loop-j.invariant c.loop-j-test.true
@@ -30,8 +30,8 @@ pub settle-next-requires : goal.settle-next-requires
 settle-next-requires c =
     settles_of _ c.args.rows.now c.args.m _ _ _ _ (some_ready_kth _ _ _ _ _ _ _ _ _ _ _ c.requires c.loop-j.invariant c.loop-j-test.true c.loop-j.auto.work c.child-at.ensures) c.in-Over.is
 
-pub overflow-add-grown : goal.overflow-add-grown
-overflow-add-grown c =
+pub overflow_add-grown : goal.overflow_add-grown
+overflow_add-grown c =
     let h = sum_small _ _ _ _ _ _ _ _ _ _ c.requires
     (step_more _ _ _ _ _ _ _ _ _ _ _ _ _ c.loop-j.invariant c.loop-j-test.true c.loop-j.auto.work c.child-at.ensures (elim c.match-nodes-at.branch [
       | in-Deal w ↦ met _ _ _ _ _ _ _ _ _ _ _ w.work-is w.next-is w.spread-next.ensures

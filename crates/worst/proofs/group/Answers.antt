@@ -1,7 +1,7 @@
 use Rattle.std.proofs.Common.{◌≡◌, sym, refl, ap, ◌∙◌, subst, arith}
 use Rattle.worst.proofs.Sifts.{sift_none, sift_inside, same_room, sift_same, sift_other, moved_fits, sift_all}
 use Rattle.worst.proofs.group.Goals as goal
-use Rattle.worst.proofs.group.Goals.{then-sight-of-sight, else-sight-of-sight}
+use Rattle.worst.proofs.group.Goals.{then-sight_of-sight, else-sight_of-sight}
 
 pub loop-i-init : goal.loop-i-init
 loop-i-init c = sift_none _ _ _ _
@@ -10,19 +10,19 @@ pub bounds-nodes-e : goal.bounds-nodes-e
 bounds-nodes-e c = sift_inside _ _ _ _ _ _ _ c.requires c.loop-i-test.true c.loop-i.invariant
 
 pub bounds-work-len : goal.bounds-work-len
-bounds-work-len c = same_room _ _ _ _ _ _ _ c.requires c.loop-i.auto.work c.loop-i-test.true c.loop-i.invariant (sym c.sight-of.ensures ∙ c.if-sight-of-sight.true)
+bounds-work-len c = same_room _ _ _ _ _ _ _ c.requires c.loop-i.auto.work c.loop-i-test.true c.loop-i.invariant (sym c.sight_of.ensures ∙ c.if-sight_of-sight.true)
 
 pub loop-i-preserved : goal.loop-i-preserved
 loop-i-preserved c =
-    elim c.if-sight-of-sight.branch [
-      | then-sight-of-sight w ↦ simp (w.work-is, w.front-is)
-          (sift_same _ _ _ _ _ _ _ c.requires c.loop-i.auto.work c.loop-i-test.true c.loop-i.invariant (sym c.sight-of.ensures ∙ w.if-sight-of-sight.true))
-      | else-sight-of-sight w ↦ simp (w.work-is, w.front-is)
-          (sift_other _ _ _ _ _ _ _ c.requires c.loop-i.auto.work c.loop-i-test.true c.loop-i.invariant (λ e. w.if-sight-of-sight.false (c.sight-of.ensures ∙ e)))
+    elim c.if-sight_of-sight.branch [
+      | then-sight_of-sight w ↦ simp (w.work-is, w.front-is)
+          (sift_same _ _ _ _ _ _ _ c.requires c.loop-i.auto.work c.loop-i-test.true c.loop-i.invariant (sym c.sight_of.ensures ∙ w.if-sight_of-sight.true))
+      | else-sight_of-sight w ↦ simp (w.work-is, w.front-is)
+          (sift_other _ _ _ _ _ _ _ c.requires c.loop-i.auto.work c.loop-i-test.true c.loop-i.invariant (λ e. w.if-sight_of-sight.false (c.sight_of.ensures ∙ e)))
     ]
 
-pub copy-within-requires : goal.copy-within-requires
-copy-within-requires c =
+pub copy_within-requires : goal.copy_within-requires
+copy_within-requires c =
     let e : c.loop-i.i ≡ c.args.len = omega (arith, c.loop-i.auto.i-end, c.loop-i-test.false) in
     let h = moved_fits _ _ _ _ _ _ _ c.requires c.loop-i.auto.work e c.loop-i.invariant in
     let h0 = h.0 in let h1 = h.1 in
@@ -31,4 +31,4 @@ copy-within-requires c =
 pub returns : goal.returns
 returns c =
     let e : c.loop-i.i ≡ c.args.len = omega (arith, c.loop-i.auto.i-end, c.loop-i-test.false) in
-    sift_all _ _ _ _ _ _ _ _ _ c.requires c.loop-i.auto.work e c.loop-i.invariant (omega arith) c.copy-within.ensures.after
+    sift_all _ _ _ _ _ _ _ _ _ c.requires c.loop-i.auto.work e c.loop-i.invariant (omega arith) c.copy_within.ensures.after

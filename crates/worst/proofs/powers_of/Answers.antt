@@ -8,8 +8,8 @@ loop-i-init c = raised_none c.args.m
 pub bounds-powers-i : goal.bounds-powers-i
 bounds-powers-i c = let s = raised_small _ _ _ _ c.requires.0 c.requires.1 c.loop-i.invariant c.loop-i-test.true in omega arith
 
-pub overflow-mul-powers : goal.overflow-mul-powers
-overflow-mul-powers c = let s = raised_small _ _ _ _ c.requires.0 c.requires.1 c.loop-i.invariant c.loop-i-test.true in omega arith
+pub overflow_mul-powers : goal.overflow_mul-powers
+overflow_mul-powers c = let s = raised_small _ _ _ _ c.requires.0 c.requires.1 c.loop-i.invariant c.loop-i-test.true in omega arith
 
 pub bounds-powers-i-in-loop-i : goal.bounds-powers-i-in-loop-i
 bounds-powers-i-in-loop-i c = let s = raised_small _ _ _ _ c.requires.0 c.requires.1 c.loop-i.invariant c.loop-i-test.true in omega arith

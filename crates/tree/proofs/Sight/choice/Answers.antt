@@ -6,7 +6,7 @@ use Rattle.tree.proofs.Sight.choice.Goals as goal
 pub returns-then-back-made : goal.returns-then-back-made
 returns-then-back-made c =
     let h = c.args.self.history in
-    c.listed-at-then-back-made.ensures
+    c.listed_at-then-back-made.ensures
     ∙ sym (in_second h.second.checks h.second.bets c.args.back (ended h.first.checks h.first.bets) (omega arith))
     ∙ ap (λ o. nth (choices_in o h.first h.second) c.args.back) (sym c.in-Some.is)
 
