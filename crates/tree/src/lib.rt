@@ -310,12 +310,12 @@ fn answers<F: Follow + Copy>(
     who: Player,
     hand: Hand,
 ) -> usize
-    requires able { able next }
-    requires room { at + size (answers_as stakes.purse stakes.bet (then next) raises who hand) ≤ length out.old }
+    requires able { F.able next }
+    requires room { at + size (answers_as stakes.purse stakes.bet (F.then next) raises who hand) ≤ length out.old }
     requires small { length out.old ≤ 65536 }
-    requires fair { Fair (10 * raises + spare) hand }
+    requires fair { Fair (10 * raises + F.spare) hand }
     requires stakes { (stakes.purse ≤ 1000) × (stakes.bet ≤ 10) }
-    ensures { Written 0 (answers_as stakes.purse stakes.bet (then next) raises who hand) at out.old out.new result }
+    ensures { Written 0 (answers_as stakes.purse stakes.bet (F.then next) raises who hand) at out.old out.new result }
 {
     let owed = due(who, hand.paid);
     let mut k = over(out, at + 1, 0, won_by(stakes.purse, other(who), hand));
@@ -349,12 +349,12 @@ fn checked<F: Follow + Copy>(
     who: Player,
     hand: Hand,
 ) -> usize
-    requires able { able next }
-    requires room { at + size (opens_as stakes.purse stakes.bet (then next) raises (then next) who hand) ≤ length out.old }
+    requires able { F.able next }
+    requires room { at + size (opens_as stakes.purse stakes.bet (F.then next) raises (F.then next) who hand) ≤ length out.old }
     requires small { length out.old ≤ 65536 }
-    requires fair { Fair (10 + (10 * raises + spare)) hand }
+    requires fair { Fair (10 + (10 * raises + F.spare)) hand }
     requires stakes { (stakes.purse ≤ 1000) × (stakes.bet ≤ 10) }
-    ensures { Written 0 (opens_as stakes.purse stakes.bet (then next) raises (then next) who hand) at out.old out.new result }
+    ensures { Written 0 (opens_as stakes.purse stakes.bet (F.then next) raises (F.then next) who hand) at out.old out.new result }
 {
     let mut k = next.follow(out, at + 1, acted(who, Act::Check, 0, hand));
     k = answers(
@@ -385,12 +385,12 @@ fn round<F: Follow + Copy>(
     who: Player,
     hand: Hand,
 ) -> usize
-    requires able { able next }
-    requires room { at + size (round_as stakes.purse stakes.bet (then next) raises who hand) ≤ length out.old }
+    requires able { F.able next }
+    requires room { at + size (round_as stakes.purse stakes.bet (F.then next) raises who hand) ≤ length out.old }
     requires small { length out.old ≤ 65536 }
-    requires fair { Fair (20 + (10 * raises + spare)) hand }
+    requires fair { Fair (20 + (10 * raises + F.spare)) hand }
     requires stakes { (stakes.purse ≤ 1000) × (stakes.bet ≤ 10) }
-    ensures { Written share (round_as stakes.purse stakes.bet (then next) raises who hand) at out.old out.new result }
+    ensures { Written share (round_as stakes.purse stakes.bet (F.then next) raises who hand) at out.old out.new result }
 {
     let mut k = checked(
         next,
@@ -440,11 +440,11 @@ fn deal<C: Card + Copy>(
     deck: [u8; 13],
     ranks: u8,
 ) -> usize
-    requires ready { (r : ℕ) → r < ranks → 0 < slice_index deck r → ready card r }
-    requires room { at + size (deals_as (take ranks deck) (after card)) ≤ length out.old }
+    requires ready { (r : ℕ) → r < ranks → 0 < slice_index deck r → C.ready card r }
+    requires room { at + size (deals_as (take ranks deck) (C.after card)) ≤ length out.old }
     requires small { length out.old ≤ 65536 }
     requires ranks { ranks ≤ 13 }
-    ensures { Written share (deals_as (take ranks deck) (after card)) at out.old out.new result }
+    ensures { Written share (deals_as (take ranks deck) (C.after card)) at out.old out.new result }
 {
     let mut k = at + 1;
     let mut cards: u32 = 0;

@@ -34,7 +34,7 @@ loop-r-preserved g c =
       | then-left-gt0 w ↦
           (let h = deal_room after c.args.deck c.loop-r.r c.args.ranks c.loop-r-test.true (omega (arith, ld, c.requires.ranks)) w.if-left-gt0.true in (
             rows_met _ _ _ _ _ _ _ _ w.k-is w.out-is (upto_more after c.args.deck c.loop-r.r (c.args.at + 1) c.loop-r.k _ _ _ _ i w.if-left-gt0.true (omega (arith, h, c.requires.room)) c.loop-r.invariant.0 w.lead-k.ensures),
-            (omega (arith, w.cards-is, c.loop-r.invariant.1.0, m), omega (arith, w.cards-is, c.loop-r.invariant.1.1, c.loop-r-test.element-fits)),
+            (omega (arith, w.cards-is, c.loop-r.invariant.1.0, m), omega (arith, w.cards-is, c.loop-r.invariant.1.1, c.loop-r-test.element_fits)),
           ))
       | else-left-gt0 w ↦ (
         rows_met _ _ _ _ _ _ _ _ w.k-is w.out-is (upto_skip after c.args.deck c.loop-r.r (c.args.at + 1) c.loop-r.k _ _ i w.if-left-gt0.false c.loop-r.invariant.0),
