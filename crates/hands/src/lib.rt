@@ -93,7 +93,7 @@ fn below(word: u32, m: u32) -> Option<u32>
 
 // The next word, where there is one and it is below m; so many were used before it.
 fn draw<W: Words>(words: &mut W, m: u32, used: usize) -> Result<u32, Refusal>
-    ensures { Drawn m used (rest words.old) result (rest words.new) }
+    ensures { Drawn m used (W.rest words.old) result (W.rest words.new) }
 {
     let Some(word) = words.next_word() else {
         return Err(Refusal::FewWords(used));
@@ -187,7 +187,7 @@ pub fn play<W: Words + Drop>(
 ) -> Result<Ends, Refusal>
     requires { SomeLaid m rows.now nodes.now }
     ensures { (k n : ℕ) (c counts : ℕ → ℕ) (tree : Tree) → Laid k m n c counts rows.now nodes.now 0 tree →
-        Ended k (played m (plan_of rows.now c) tree choices.now (rest words)) result }
+        Ended k (played m (plan_of rows.now c) tree choices.now (W.rest words)) result }
 {
     let mut at = 0;
     let mut made = 0;

@@ -20,8 +20,8 @@ least_of-overflow_sub-grown t c =
     let d = c.gather-grown.ensures p.told p.items p.given p.there in
     omega (arith, d.len_is)
 
-pub least_of_reckon-rest-requires : goal.least_of_reckon-rest-requires
-least_of_reckon-rest-requires t c =
+pub least_of-reckon-rest-requires : goal.least_of-reckon-rest-requires
+least_of-reckon-rest-requires t c =
     let p = kth _ _ _ _ _ _ _ _ _ c.requires c.count_of-choices.ensures c.loop-k.invariant.0 c.loop-k.auto.work c.loop-k-test.true in
     (part_falls _ _ _ _ (c.gather-grown.auto.work ∙ c.loop-k.auto.work) c.requires.some c.requires.given.len_le c.decreases, kth_rows _ _ _ _ _ _ _ _ _ _ p c.gather-grown.auto.work c.gather-grown.ensures refl)
 

@@ -15,7 +15,7 @@ pub loop-j-preserved : goal.loop-j-preserved
 loop-j-preserved c = hop_more _ _ _ _ _ c.loop-j.invariant c.loop-j-test.true
 
 pub returns : goal.returns
-returns c = hop_all _ _ _ _ _ c.loop-j.invariant (omega (arith, c.loop-j.auto.-j-end, c.loop-j-test.false))
+returns c = hop_all _ _ _ _ _ c.loop-j.invariant (omega (arith, c.loop-j.auto._j-end, c.loop-j-test.false))
 
 pub overflow_cast-at : goal.overflow_cast-at
 overflow_cast-at c = let h = hop_fits _ _ _ _ _ c.requires c.loop-j.invariant (let l = c.loop-j-test.true in omega arith) in omega (arith, h.1)

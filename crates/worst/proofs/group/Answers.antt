@@ -26,7 +26,7 @@ copy_within-requires c =
     let e : c.loop-i.i ≡ c.args.len = omega (arith, c.loop-i.auto.i-end, c.loop-i-test.false) in
     let h = moved_fits _ _ _ _ _ _ _ c.requires c.loop-i.auto.work e c.loop-i.invariant in
     let h0 = h.0 in let h1 = h.1 in
-    record { start-le-end = omega arith; in_bounds = h1; dest-in-bounds = omega arith; not-exhausted = tt }
+    record { start_le_end = omega arith; in_bounds = h1; dest_in_bounds = omega arith; not_exhausted = tt }
 
 pub returns : goal.returns
 returns c =
