@@ -457,7 +457,7 @@ impl fmt::Display for HandLine {
 }
 
 // Adds the line of a hand.
-fn add_line(res: Result<Ends, hands::Refusal>, out: &mut String) -> fmt::Result
+fn add_line(res: Result<Ends, hands::Refusal>, out: &mut String) -> Result<(), AllocError>
     ensures { OnOk result (string_bytes out.new ≡ string_bytes out.old ++ line (hand_line res) []) }
 {
     let text = HandLine(res);
@@ -465,7 +465,7 @@ fn add_line(res: Result<Ends, hands::Refusal>, out: &mut String) -> fmt::Result
 }
 
 // Plays the hands of the bytes one after the other, and adds a line for each.
-fn write_hands(nodes: &[Node], rows: &[Row], m: u32, input: &[u8], out: &mut String) -> fmt::Result
+fn write_hands(nodes: &[Node], rows: &[Row], m: u32, input: &[u8], out: &mut String) -> Result<(), AllocError>
     requires { SomeLaid m rows.now nodes.now }
     ensures { OnOk result (Lines nodes.now rows.now m (string_bytes out.old) input.now (string_bytes out.new) []) }
 {
@@ -507,7 +507,7 @@ fn play_plan(
     let mut out = String::new(heap);
     match write_hands(nodes, &rows, o.m, past(rest, n), &mut out) {
         Ok(()) => Ok(out),
-        Err(_) => Err(AllocError),
+        Err(e) => Err(e),
     }
 }
 
