@@ -552,6 +552,7 @@ impl Card for PublicCard {
 
     fn lead(self, out: &mut [Node], at: usize, rank: u8, share: u32) -> usize {
         let sheet = self.sheet;
+        let begins = sheet.begins;
         let purse = purse(sheet);
         let stakes = Stakes {
             purse,
@@ -567,7 +568,7 @@ impl Card for PublicCard {
             share,
             stakes,
             sheet.raises,
-            sheet.begins,
+            begins,
             show(self.hand, rank),
         )
     }
@@ -667,6 +668,7 @@ impl Card for GuestCard {
                 hand,
             )
         } else {
+            let raises = sheet.raises;
             round(
                 Showdown {
                     purse,
@@ -676,7 +678,7 @@ impl Card for GuestCard {
                 at,
                 share,
                 stakes,
-                sheet.raises,
+                raises,
                 sheet.begins,
                 hand,
             )
