@@ -1,7 +1,7 @@
 -- What is known of a file that begins as it should. Assumes nothing.
-use Rattle.std.proofs.Common.{◌≡◌, ℕ, ◌+◌, ◌-◌, ◌*◌, ◌%◌, ◌^◌, ◌<◌, ◌≤◌, Bool, true, false, not, ◌&&◌, ◌||◌, eqb, ltb, leb, ◌⊎◌, List, [], ◌∷◌, length, get_or, take, drop, Some, None, Ok, Err, Option, Result, sym, refl, ap, ◌∙◌, subst, inl, inr, arith}
-use Rattle.std.proofs.lemmas.Bool.{and_parts, leb-true, eqb-true, eq-eqb, or_cases, both_ways, not-true}
-use Rattle.rules.specs.declared.Player.TheVariants.{House, Guest}
+use Rattle.std.proofs.Common.{◌≡◌, ℕ, ◌+◌, ◌-◌, ◌*◌, ◌%◌, ◌^◌, ◌<◌, Bool, true, false, not, ◌||◌, eqb, leb, List, length, get_or, take, drop, Some, None, Ok, Err, Option, Result, sym, refl, subst, arith}
+use Rattle.std.proofs.lemmas.Bool.{and_parts, leb-true, eqb-true, both_ways}
+use Rattle.rules.specs.declared.Player.TheVariants.{House}
 use Rattle.rules.specs.declared.Sheet.{Sheet}
 use Rattle.rules.specs.declared.Refusal as R
 use Rattle.rules.specs.declared.Refusal.TheVariants.{Length, Range, Deck}
@@ -16,11 +16,9 @@ use Rattle.tree.specs.declared.Sizes.{Sizes}
 use Rattle.tree.specs.Built.{sizes_of}
 use Rattle.plans.specs.declared.Refusal as P
 use Rattle.plans.specs.Numbers.{numbers, front}
-use Rattle.plans.specs.Refusals as plans
 use Rattle.plans.specs.Bases.{base_of, size_of, divides, Based}
 use Rattle.worst.specs.declared.Refusal as W
 use Rattle.worst.specs.Admit.{admitted}
-use Rattle.answers.specs.declared.Refusal.{Refusal}
 use Rattle.answers.specs.declared.Opening.{Opening}
 use Rattle.answers.specs.Files.{open_size, open_base, open_number, open_memory, open_sheet_in, opened_in}
 use Rattle.answers.specs.Ready.{Ready}

@@ -1,16 +1,14 @@
 -- How a file begins. Assumes nothing.
-use Rattle.std.proofs.Common.{◌≡◌, ℕ, ◌+◌, ◌*◌, ◌^◌, ◌<◌, ◌≤◌, Bool, true, false, ltb, leb, ◌⊎◌, List, [], ◌∷◌, take, drop, Some, None, Ok, Err, Option, Result, sym, refl, ap, ◌∙◌, subst, inl, inr}
+use Rattle.std.proofs.Common.{◌≡◌, ℕ, ◌*◌, ◌^◌, ◌<◌, ◌≤◌, Bool, true, false, ltb, leb, List, take, drop, Some, Ok, Err, Result, sym, refl, ap, ◌∙◌}
 use Rattle.cards.specs.Game.{pick}
 use Rattle.std.proofs.lemmas.Bool.{ltb-true, leb-true, le-leb}
-use Rattle.rules.specs.declared.Player.TheVariants.{House, Guest}
+use Rattle.rules.specs.declared.Player.TheVariants.{House}
 use Rattle.rules.specs.declared.Sheet.{Sheet}
 use Rattle.rules.specs.Read as rules
 use Rattle.rules.specs.Play.{purse}
 use Rattle.rules.specs.Counts.{word_count}
 use Rattle.rules.proofs.Passed.{ok_same, no_ok}
-use Rattle.tree.specs.declared.Chair.{Chair}
 use Rattle.tree.specs.declared.Sizes.{Sizes}
-use Rattle.tree.specs.declared.Refusal as T
 use Rattle.tree.specs.declared.Refusal.TheVariants.{NoRoom, NoSightRoom, TooLarge}
 use Rattle.tree.specs.Built as tree
 use Rattle.tree.specs.Built.{sizes_of}
@@ -19,11 +17,8 @@ use Rattle.plans.specs.declared.Refusal.TheVariants.{Large}
 use Rattle.plans.specs.Numbers.{numbers, front}
 use Rattle.plans.specs.Refusals.{holds}
 use Rattle.plans.specs.Bases.{base_of, size_of}
-use Rattle.worst.specs.declared.Refusal as W
 use Rattle.worst.specs.declared.Refusal.TheVariants.{OfTree, NoWork}
 use Rattle.worst.specs.Admit.{admitted}
-use Rattle.answers.specs.declared.Refusal.{Refusal}
-use Rattle.answers.specs.declared.Opening.{Opening}
 use Rattle.answers.specs.Files.{open_size, open_base, open_number, open_memory, open_sheet_in, opened_in}
 
 -- what is admitted is handed on as it is, and fits

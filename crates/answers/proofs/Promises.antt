@@ -1,9 +1,9 @@
 -- What is promised of the answer to a file holds. Assumes nothing.
 use Rattle.std.proofs.Common.{◌≡◌, ℕ, ◌+◌, ◌*◌, ◌^◌, ◌<◌, ◌≤◌, List, [], ◌∷◌, ◌++◌, take, drop, Ok, Err, Result, sym, refl, ap, ◌∙◌, subst, append-nil, arith}
 use Rattle.cards.specs.Game.{Tree, Plan, Way, sum}
-use Rattle.cards.specs.Match.{hand, sum_rows}
-use Rattle.cards.specs.Played.{Outcome, done, played, has, trace, Row}
-use Rattle.cards.specs.Promise.{Legal, Well, Worst, FloorHolds, WordsFall, OneWorst}
+use Rattle.cards.specs.Match.{hand}
+use Rattle.cards.specs.Played.{played, has, trace, Row}
+use Rattle.cards.specs.Promise.{Legal, Worst, FloorHolds, WordsFall, OneWorst}
 use Rattle.cards.specs.Reckon.{worst}
 use Rattle.cards.specs.Table.{WaysArePlayed}
 use Rattle.cards.proofs.FloorHolds.{floor_holds}
@@ -13,15 +13,12 @@ use Rattle.cards.proofs.WaysPlayed.{ways_are_played}
 use Rattle.cards.proofs.Sums.{sum_rows_same}
 use Rattle.rules.specs.declared.Player.{Player}
 use Rattle.rules.specs.declared.Player.TheVariants.{House, Guest}
-use Rattle.rules.specs.declared.Sheet.{Sheet}
 use Rattle.rules.specs.Play.{other, purse}
-use Rattle.rules.specs.Sights.{words}
 use Rattle.rules.specs.Counts.{word_count}
 use Rattle.rules.specs.Statements.{choices, seat}
 use Rattle.tree.specs.declared.Sizes.{Sizes}
 use Rattle.plans.specs.declared.Row.{Row as Weights}
 use Rattle.plans.specs.declared.Refusal as P
-use Rattle.plans.specs.Plan.{plan_of}
 use Rattle.plans.specs.Bases.{size_of}
 use Rattle.bracket.specs.declared.Verdict.{Verdict}
 use Rattle.bracket.specs.Verdicts.{verdict_of}
@@ -30,7 +27,6 @@ use Rattle.bracket.proofs.Seats.{brackets_stand}
 use Rattle.answers.specs.declared.Refusal.{Refusal}
 use Rattle.answers.specs.declared.Opening.{Opening}
 use Rattle.answers.specs.declared.Kept.{Kept}
-use Rattle.answers.specs.declared.Answer.{Answer}
 use Rattle.answers.specs.declared.Answer.TheVariants.{Refused, One, Both}
 use Rattle.answers.specs.Files.{opened_in, past_m, plan_length, plan_in, kept_by, both, with_rival, sized_rival, beyond, with_plan, with_opening, reckoned_in}
 use Rattle.answers.specs.Ready.{Ready}

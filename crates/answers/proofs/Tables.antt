@@ -1,8 +1,7 @@
 -- What is promised of the hands that are played holds. Assumes nothing.
-use Rattle.std.proofs.Common.{◌≡◌, ℕ, ◌+◌, ◌-◌, ◌*◌, ◌^◌, ◌<◌, ◌≤◌, List, [], ◌∷◌, ◌++◌, take, drop, Ok, Err, codes, Result, sym, refl, ap, ◌∙◌, subst, append_assoc, append-nil}
+use Rattle.std.proofs.Common.{◌≡◌, ℕ, ◌^◌, ◌<◌, List, [], ◌∷◌, ◌++◌, take, Ok, Err, codes, Result, sym, refl, ap, ◌∙◌, append_assoc, append-nil}
 use Rattle.answers.specs.Text.{line}
-use Rattle.cards.specs.Game.{Tree, Plan, Way}
-use Rattle.cards.specs.Played.{Outcome, done, played, trace}
+use Rattle.cards.specs.Played.{Outcome, played, trace}
 use Rattle.cards.specs.Promise.{WordsFall, Well}
 use Rattle.cards.specs.Table.{WaysArePlayed, PlayedIsAWay, MatchHolds, MatchIsMet}
 use Rattle.cards.proofs.WordsFall.{words_fall}
@@ -10,19 +9,17 @@ use Rattle.cards.proofs.WaysPlayed.{ways_are_played}
 use Rattle.cards.proofs.PlayedWay.{played_is_a_way}
 use Rattle.cards.proofs.Guests.{match_holds, match_is_met}
 use Rattle.rules.specs.declared.Player.TheVariants.{House, Guest}
-use Rattle.rules.specs.declared.Sheet.{Sheet}
 use Rattle.rules.specs.declared.Ends.{Ends}
 use Rattle.rules.specs.Counts.{word_count}
 use Rattle.rules.specs.Statements.{choices}
 use Rattle.plans.specs.declared.Row.{Row as Weights}
-use Rattle.tree.specs.Rep.{ends_of}
 use Rattle.hands.specs.declared.Refusal as H
 use Rattle.hands.specs.Refused.{outcome_of}
 use Rattle.hands.specs.Laid.{Shared}
 use Rattle.hands.specs.Match.{outcomes_of, hands_of}
 use Rattle.plans.specs.Plan.{plan_of}
 use Rattle.answers.specs.declared.Opening.{Opening}
-use Rattle.answers.specs.Files.{opened_in, past_m, plan_length, plan_in}
+use Rattle.answers.specs.Files.{past_m, plan_length, plan_in}
 use Rattle.answers.specs.Ready.{Ready}
 use Rattle.answers.specs.Promised.{plan_read}
 use Rattle.answers.specs.Hands.{hand_line, outcome_line, hand_lines, play_plan, table_of, tree_of, AtTable, PlaysIn}

@@ -2,22 +2,18 @@
 use Rattle.std.proofs.Common.{◌≡◌, ℕ, ◌+◌, ◌*◌, ◌^◌, ◌<◌, ◌≤◌, List, [], ◌∷◌, map, length, take, drop, Ok, Result, sym, refl, ap, ◌∙◌, subst, mul_assoc, mul-le-mul, add_comm, one-mul, le_of_mul-le-mul_right, arith, pow-add}
 use native.Mathlib.Nat.{one-le-pow}
 use Rattle.std.proofs.lemmas.List.{take_at, length-map}
-use Rattle.cards.specs.Game.{Tree, Plan}
-use Rattle.cards.specs.Promise.{Well, AtMost, turned, Worst}
+use Rattle.cards.specs.Promise.{Well, AtMost, Worst}
 use Rattle.cards.specs.Reckon.{places, worst}
 use Rattle.cards.proofs.Bracket.{most_turned}
 use Rattle.rules.specs.declared.Player.{Player}
 use Rattle.rules.specs.declared.Player.TheVariants.{House, Guest}
-use Rattle.rules.specs.declared.Bets.{Bets}
 use Rattle.rules.specs.declared.Sheet.{Sheet}
 use Rattle.rules.specs.Play.{other, purse}
 use Rattle.rules.specs.Sights.{tree, words}
-use Rattle.rules.specs.Sound.{Sound}
 use Rattle.rules.specs.Counts.{word_count, WordsAre}
 use Rattle.rules.specs.Statements.{choices, seat, Plans, Stands}
 use Rattle.rules.proofs.Sheets.{sheets_stand_lem}
 use Rattle.rules.proofs.CountWords.{words_are}
-use Rattle.tree.specs.declared.Chair.{Chair}
 use Rattle.tree.specs.declared.Sizes.{Sizes}
 use Rattle.tree.specs.declared.Node.{Node}
 use Rattle.tree.specs.Built.{sizes_of, Laid as TreeLaid, Memory, Begins}
@@ -33,10 +29,9 @@ use Rattle.plans.specs.declared.Row.{Row}
 use Rattle.plans.specs.declared.Refusal as P
 use Rattle.plans.specs.Bytes.{bytes_of, plan_as}
 use Rattle.plans.specs.Plan.{plan_of}
-use Rattle.plans.specs.Bases.{Based, size_of}
+use Rattle.plans.specs.Bases.{size_of}
 use Rattle.plans.proofs.Planned.{plans_stand_lem}
 use Rattle.worst.specs.Whole.{Whole}
-use Rattle.worst.specs.Admit.{admitted}
 use Rattle.bracket.specs.Chairs.{WorstAt, BracketsStand}
 use Rattle.bracket.proofs.Turns.{places_turned, rep_turned}
 use Rattle.bracket.specs.Turned.{turned_node}
@@ -48,7 +43,7 @@ use Rattle.answers.specs.declared.Answer.TheVariants.{One}
 use Rattle.answers.specs.declared.Kept.{Kept}
 use Rattle.answers.specs.Ready.{Ready}
 use Rattle.answers.specs.Steps.{Standing, Keeping, Roomy}
-use Rattle.answers.proofs.Openings.{Fits, admitted_fits, tree_admitted, size_small}
+use Rattle.answers.proofs.Openings.{Fits, tree_admitted, size_small}
 
 module _ (o : Opening) (r : Ready o) where
   abbrev s : Sheet

@@ -1,11 +1,10 @@
 -- What the playing program prints, and what is promised of the hands that it plays. Assumes nothing: these are definitions and statements.
-use Rattle.std.specs.Prelude.{◌≡◌, ℕ, ◌+◌, ◌-◌, ◌*◌, ◌^◌, ◌<◌, ◌≤◌, List, [], ◌∷◌, ◌++◌, take, drop, Ok, Err, codes, decimal, Result}
-use Rattle.cards.specs.Game.{Tree, Plan, Way, sum}
+use Rattle.std.specs.Prelude.{◌≡◌, ℕ, ◌-◌, ◌*◌, ◌^◌, ◌<◌, ◌≤◌, List, [], ◌∷◌, ◌++◌, take, drop, Ok, Err, codes, decimal, Result}
+use Rattle.cards.specs.Game.{Tree, Way, sum}
 use Rattle.cards.specs.Match.{hand, sum_rows}
-use Rattle.cards.specs.Played.{Outcome, done, Hand, played, played_all, has_in_all, Row, trace, sum_hands, handed, Move, Mind, asked, refused as turned_away}
+use Rattle.cards.specs.Played.{Outcome, done, played, played_all, has_in_all, Row, trace, sum_hands, handed, Move, Mind, asked, refused as turned_away}
 use Rattle.cards.specs.Promise.{Legal}
 use Rattle.rules.specs.declared.Player.TheVariants.{House, Guest}
-use Rattle.rules.specs.declared.Sheet.{Sheet}
 use Rattle.rules.specs.declared.Ends.{Ends}
 use Rattle.rules.specs.Play.{purse}
 use Rattle.rules.specs.Sights.{tree}

@@ -1,12 +1,11 @@
 -- What is promised of the answer to a file, said of its own bytes. Each is a statement, a type: a contract in src/lib.rt asserts it, and its proof is in proofs/. Assumes nothing.
-use Rattle.std.specs.Prelude.{◌≡◌, ℕ, ◌+◌, ◌*◌, ◌^◌, ◌≤◌, List, [], take, drop, Ok}
+use Rattle.std.specs.Prelude.{◌≡◌, ℕ, ◌*◌, ◌^◌, ◌≤◌, List, [], take, drop, Ok}
 use Rattle.cards.specs.Game.{Plan, Way}
 use Rattle.cards.specs.Match.{sum_rows}
 use Rattle.cards.specs.Played.{played, has, trace}
 use Rattle.cards.specs.Promise.{Legal, Worst}
 use Rattle.rules.specs.declared.Player.{Player}
 use Rattle.rules.specs.declared.Player.TheVariants.{House, Guest}
-use Rattle.rules.specs.declared.Sheet.{Sheet}
 use Rattle.rules.specs.Play.{other, purse}
 use Rattle.rules.specs.Counts.{word_count}
 use Rattle.rules.specs.Statements.{choices, seat, Plans}
@@ -17,7 +16,6 @@ use Rattle.bracket.specs.declared.Verdict.{Verdict}
 use Rattle.bracket.specs.Chairs.{Brackets, verdict_at}
 use Rattle.answers.specs.declared.Opening.{Opening}
 use Rattle.answers.specs.declared.Kept.{Kept}
-use Rattle.answers.specs.declared.Answer.{Answer}
 use Rattle.answers.specs.declared.Answer.TheVariants.{One, Both}
 use Rattle.answers.specs.Files.{room, opened_in, past_m, plan_length, plan_in, reckoned_in}
 

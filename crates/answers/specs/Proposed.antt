@@ -2,9 +2,7 @@
 use Rattle.std.specs.Prelude.{◌≡◌, ℕ, List, Ok, Err, Result}
 use Rattle.rules.specs.declared.Player.{Player}
 use Rattle.rules.specs.declared.Player.TheVariants.{House, Guest}
-use Rattle.rules.specs.declared.Sheet.{Sheet}
 use Rattle.rules.specs.Counts.{word_count}
-use Rattle.tree.specs.declared.Sizes.{Sizes}
 use Rattle.plans.specs.declared.Row.{Row}
 use Rattle.plans.specs.declared.Refusal as P
 use Rattle.plans.specs.Bases.{size_of}

@@ -1,12 +1,9 @@
 -- What is known of a file once its beginning is read. Assumes nothing: these are definitions.
-use Rattle.std.specs.Prelude.{◌≡◌, ℕ, ◌*◌, ◌^◌, ◌<◌, ◌≤◌}
-use Rattle.rules.specs.declared.Player.TheVariants.{House, Guest}
-use Rattle.rules.specs.declared.Sheet.{Sheet}
+use Rattle.std.specs.Prelude.{◌≡◌, ◌*◌, ◌^◌, ◌<◌, ◌≤◌}
+use Rattle.rules.specs.declared.Player.TheVariants.{House}
 use Rattle.rules.specs.Play.{purse}
 use Rattle.rules.specs.Sound.{Sound}
 use Rattle.rules.specs.Counts.{word_count}
-use Rattle.tree.specs.declared.Chair.{Chair}
-use Rattle.tree.specs.declared.Sizes.{Sizes}
 use Rattle.tree.specs.Built.{sizes_of}
 use Rattle.plans.specs.Bases.{Based}
 use Rattle.answers.specs.declared.Opening.{Opening}

@@ -5,12 +5,9 @@ use Rattle.hands.specs.Match.{outcomes_of}
 use Rattle.answers.specs.Hands.{hand_lines}
 use Rattle.cards.specs.Game.{Tree}
 use Rattle.cards.specs.Reckon.{worst}
-use Rattle.rules.specs.declared.Player.{Player}
 use Rattle.rules.specs.declared.Player.TheVariants.{House, Guest}
-use Rattle.rules.specs.declared.Sheet.{Sheet}
-use Rattle.rules.specs.Play.{purse, game}
-use Rattle.rules.specs.Sights.{tree, sights}
-use Rattle.tree.specs.declared.Chair.{Chair}
+use Rattle.rules.specs.Play.{purse}
+use Rattle.rules.specs.Sights.{tree}
 use Rattle.tree.specs.declared.Sight.{Sight}
 use Rattle.tree.specs.declared.Sizes.{Sizes}
 use Rattle.tree.specs.declared.Node.{Node}

@@ -1,7 +1,6 @@
 -- What the programs print. Assumes nothing: these are definitions.
-use Rattle.std.specs.Prelude.{ℕ, List, [], ◌∷◌, ◌++◌, codes, decimal}
+use Rattle.std.specs.Prelude.{ℕ, List, [], ◌++◌, codes, decimal}
 use Rattle.rules.specs.Read as rules
-use Rattle.tree.specs.declared.Chair.{Chair}
 use Rattle.tree.specs.declared.Sizes.{Sizes}
 use Rattle.plans.specs.Refusals as plans
 use Rattle.worst.specs.Admit as worst

@@ -465,7 +465,13 @@ fn add_line(res: Result<Ends, hands::Refusal>, out: &mut String) -> Result<(), A
 }
 
 // Plays the hands of the bytes one after the other, and adds a line for each.
-fn write_hands(nodes: &[Node], rows: &[Row], m: u32, input: &[u8], out: &mut String) -> Result<(), AllocError>
+fn write_hands(
+    nodes: &[Node],
+    rows: &[Row],
+    m: u32,
+    input: &[u8],
+    out: &mut String,
+) -> Result<(), AllocError>
     requires { SomeLaid m rows.now nodes.now }
     ensures { OnOk result (Lines nodes.now rows.now m (string_bytes out.old) input.now (string_bytes out.new) []) }
 {

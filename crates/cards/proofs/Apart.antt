@@ -1,6 +1,6 @@
 -- The trees of two sights of the guest have no later sight in common.
-use Rattle.std.proofs.Common.{◌≡◌, ℕ, zero, suc, ◌+◌, ◌<◌, ◌≤◌, Bool, false, eqb, List, [], ◌∷◌, ◌++◌, length, sym, refl, ap, ◌∙◌, subst, append_assoc, arith, length-append}
-use Rattle.cards.specs.Game.{Tree, over, deal, ours, theirs, Trees, none, more, pick}
+use Rattle.std.proofs.Common.{◌≡◌, ℕ, Bool, false, eqb, List, [], ◌∷◌, ◌++◌, length, sym, refl, ap, ◌∙◌, append_assoc, arith, length-append}
+use Rattle.cards.specs.Game.{Tree, theirs, Trees, pick}
 use Rattle.cards.specs.Played.{Move, Recalls, recalls_over, recalls_deal, recalls_ours, recalls_theirs, RecallsAll, recalls_none, recalls_more, RecallsAfter, after_none, after_more}
 use Rattle.cards.specs.Apart.{Met, met_here, met_deal, met_ours, met_theirs, Mets, mets_first, mets_later, SightsLieApart}
 use Rattle.std.proofs.lemmas.Bool.{eq-eqb, ne_eqb, eqb-true}

@@ -1,8 +1,8 @@
 -- The floor with a rotation only proves too little: a small game with recall has no worst by it. Each of its floors is one by `Floor`.
-use Rattle.std.proofs.Common.{◌≡◌, ℕ, zero, suc, ◌+◌, ◌*◌, ◌^◌, ◌<◌, ◌≤◌, Bool, true, false, ◌⊎◌, List, [], ◌∷◌, ◌++◌, sym, refl, ap, ◌∙◌, subst, inl, inr, append-nil, zero-add, arith}
+use Rattle.std.proofs.Common.{◌≡◌, ℕ, zero, suc, ◌+◌, ◌*◌, ◌<◌, ◌≤◌, ◌⊎◌, List, [], ◌∷◌, ◌++◌, sym, refl, ap, ◌∙◌, subst, inl, inr, append-nil, zero-add, arith}
 use Rattle.cards.specs.Game.{Tree, over, deal, ours, theirs, Trees, none, more, Plan, Way, many, total, sum, at}
 use Rattle.cards.specs.Floor.{Item, sum_of, spread, nth, AtSight, nil, and, next, after, Floor, nothing, ended, dealt, planned, later, apart, chosen, lower}
-use Rattle.cards.specs.Promise.{Legal, whole, Worst, Well, well_over, well_deal, well_theirs, wells_none, wells_more}
+use Rattle.cards.specs.Promise.{Legal, Well, well_over, well_deal, well_theirs, wells_none, wells_more}
 use Rattle.cards.specs.Played.{Recalls, RecallsAfter, recalls_over, recalls_deal, recalls_theirs, recalls_none, recalls_more, after_none, after_more}
 use Rattle.cards.specs.Reckon.{item}
 use Rattle.cards.specs.Rotating.{Rotating, nothing', ended', dealt', planned', later', apart', chosen', lower', RotatingWorst, RotatingIsAFloor, RotatingFallsShort, plain, crossed, ones, four, crossing, no_plan, both}

@@ -1,6 +1,6 @@
 -- Where a sight is met in a tree; the trees of two sights have no later sight in common. Assumes nothing: these are definitions and a statement.
 use Rattle.std.specs.Prelude.{◌≡◌, ℕ, List}
-use Rattle.cards.specs.Game.{Tree, over, deal, ours, theirs, Trees, none, more}
+use Rattle.cards.specs.Game.{Tree, deal, ours, theirs, Trees, more}
 use Rattle.cards.specs.Played.{Move, Recalls}
 
 -- the guest is to choose at sight s somewhere in the tree

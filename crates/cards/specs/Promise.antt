@@ -1,5 +1,5 @@
 -- What is promised. Each is a statement, a type: a contract in src/lib.rt asserts it, and its proof is in proofs/. Assumes nothing.
-use Rattle.std.specs.Prelude.{◌≡◌, ℕ, zero, suc, ◌+◌, ◌-◌, ◌*◌, ◌^◌, ◌<◌, ◌≤◌, Bool, true, false, not, ◌&&◌, ◌||◌, List, [], ◌∷◌, ◌++◌, length, ◌==◌}
+use Rattle.std.specs.Prelude.{◌≡◌, ℕ, suc, ◌+◌, ◌-◌, ◌*◌, ◌^◌, ◌<◌, ◌≤◌, Bool, true, false, not, ◌&&◌, ◌||◌, List, [], ◌∷◌, length, ◌==◌}
 use Rattle.cards.specs.Game.{Tree, over, deal, ours, theirs, Trees, none, more, Plan, Way, many, total, sum}
 use Rattle.cards.specs.Floor.{Item, Floor}
 use Rattle.cards.specs.Match.{hand, sum_rows, Guest, bout}

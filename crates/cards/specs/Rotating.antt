@@ -1,9 +1,9 @@
 -- The floor with a weaker `later`, by which the first item can only be put last. Kept to show why `later` puts an item into any place. Assumes nothing: these are definitions and statements.
-use Rattle.std.specs.Prelude.{◌≡◌, ℕ, zero, suc, ◌+◌, ◌*◌, ◌^◌, ◌<◌, ◌≤◌, List, [], ◌∷◌, ◌++◌}
+use Rattle.std.specs.Prelude.{◌≡◌, ℕ, suc, ◌+◌, ◌*◌, ◌^◌, ◌<◌, ◌≤◌, List, [], ◌∷◌, ◌++◌}
 use Rattle.cards.specs.Game.{Tree, over, deal, ours, theirs, Trees, none, more, Plan, Way, sum}
 use Rattle.cards.specs.Floor.{Item, spread, AtSight, after, Floor}
 use Rattle.cards.specs.Promise.{Legal, Well, whole, Worst}
-use Rattle.cards.specs.Played.{Move, Recalls}
+use Rattle.cards.specs.Played.{Recalls}
 
 pub data Rotating (m : ℕ) (plan : Plan) (choices : ℕ → ℕ) : List Item → ℕ → Type 0 where
   nothing' : Rotating m plan choices [] 0

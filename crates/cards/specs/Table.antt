@@ -1,9 +1,9 @@
 -- What is promised of the hands as they are played. Each is a statement, a type: a contract in src/lib.rt asserts it, and its proof is in proofs/. Assumes nothing.
-use Rattle.std.specs.Prelude.{◌≡◌, ℕ, zero, suc, ◌+◌, ◌*◌, ◌^◌, ◌<◌, ◌≤◌, true, ◌⊎◌, List, [], ◌∷◌, ◌++◌, length, slice_index}
+use Rattle.std.specs.Prelude.{◌≡◌, ℕ, ◌*◌, ◌^◌, ◌<◌, ◌≤◌, true, ◌⊎◌, List, [], ◌++◌, length, slice_index}
 use Rattle.cards.specs.Game.{Tree, Plan, Way, sum}
 use Rattle.cards.specs.Floor.{Floor}
 use Rattle.cards.specs.Match.{hand, sum_rows, Guest}
-use Rattle.cards.specs.Played.{Outcome, done, refused, played, has, Row, Hands, trace, Move, moves, Made, sum_hands, Chooser, Blind, Ends, played_all, has_in_all, handed, Mind, asked, Recalls}
+use Rattle.cards.specs.Played.{done, refused, played, has, Row, Hands, trace, Move, moves, Made, sum_hands, Chooser, Blind, Ends, played_all, has_in_all, handed, Mind, asked, Recalls}
 use Rattle.cards.specs.Reckon.{worst}
 use Rattle.cards.specs.Promise.{Legal, Well, whole, once, AtMost, Worst}
 

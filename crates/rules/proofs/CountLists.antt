@@ -1,13 +1,13 @@
 -- Lists with no element twice: two with the same elements are as long; each sight is gathered once. Assumes nothing.
-use Rattle.std.proofs.Common.{◌≡◌, ℕ, zero, suc, ◌≤◌, Bool, true, false, ◌&&◌, eqb, ◌⊎◌, List, [], ◌∷◌, ◌++◌, length, Some, None, Option, sym, refl, ap, ◌∙◌, inl, inr, arith}
+use Rattle.std.proofs.Common.{◌≡◌, suc, ◌≤◌, Bool, true, false, ◌⊎◌, List, [], ◌∷◌, ◌++◌, length, sym, refl, ap, ◌∙◌, inl, inr, arith}
 use mathlib.Core.List.Memᴰ
 use mathlib.Core.List.{Memᴰ}
-use Rattle.std.proofs.lemmas.Bool.{eqb-true, eq-eqb, and_parts, and_from, or_cases, or_left, or_right, both_ways}
+use Rattle.std.proofs.lemmas.Bool.{or_cases, or_left, or_right, both_ways}
 use Rattle.cards.specs.Game.{pick}
 use Rattle.rules.proofs.Same.{sight_eq, sight_refl}
 use Rattle.rules.specs.declared.Player.{Player}
 use Rattle.rules.specs.Play.{Sight, Place}
-use Rattle.rules.specs.Sights.{same_public, same_choices, same_sight, met, known, note, gather, sights}
+use Rattle.rules.specs.Sights.{same_sight, met, known, note, gather, sights}
 
 abbrev pub In : {A : Type 0} → A → List A → Type 0
 In z xs = Memᴰ z xs

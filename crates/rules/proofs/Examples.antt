@@ -1,11 +1,9 @@
 -- The sizes of two games, computed.
-use Rattle.std.proofs.Common.{◌≡◌, ℕ, zero, suc, ◌*◌, true, List, [], ◌∷◌, length, None, Option, refl}
+use Rattle.std.proofs.Common.{◌≡◌, ℕ, zero, suc, ◌*◌, true, List, [], ◌∷◌, length, None, refl}
 use Rattle.cards.specs.Game.{total}
 use Rattle.cards.specs.Floor.{after, next, nth}
 use Rattle.cards.specs.Reckon.{places, worst}
-use Rattle.rules.specs.declared.Player.{Player}
 use Rattle.rules.specs.declared.Player.TheVariants.{House, Guest}
-use Rattle.rules.specs.declared.Bets.{Bets}
 use Rattle.rules.specs.declared.Sheet.{Sheet}
 use Rattle.rules.specs.Play.{check, bet, Sight, purse, game}
 use Rattle.rules.specs.Sights.{sights, tree, words}

@@ -4,10 +4,9 @@ use Rattle.std.proofs.lemmas.Bool.{both_ways}
 use Rattle.cards.specs.Game.{pick, total}
 use Rattle.rules.specs.declared.Player.{Player}
 use Rattle.rules.specs.declared.Player.TheVariants.{House, Guest}
-use Rattle.rules.specs.declared.Bets.{Bets}
 use Rattle.rules.specs.declared.Sheet.{Sheet}
 use Rattle.rules.specs.declared.Ends.{Ends}
-use Rattle.rules.specs.Play.{other, check, bet, call, raise, Stand, opening, checked, facing, offers, Sight, Place, end, dealt, turn, Places, no_more, also, purse, Hand, sight, acts, shows, due, won_by, split, higher, settled, by_choice, acting, answers, free, final, round, left, each, deals, without, sits, second, first, game}
+use Rattle.rules.specs.Play.{other, check, bet, call, raise, Stand, opening, checked, facing, offers, Sight, Place, end, dealt, turn, Places, no_more, also, purse, Hand, sight, acts, shows, due, won_by, split, higher, settled, by_choice, acting, answers, free, final, round, left, each, deals, without, sits, second, game}
 use Rattle.rules.specs.Sights.{is_same_player}
 use Rattle.rules.specs.Memory.{Step, Phase, at, moved, phase, actor, late, open_choices, past, offered}
 use Rattle.rules.proofs.CountWords.{replicate_total}

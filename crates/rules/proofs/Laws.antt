@@ -9,7 +9,6 @@ use Rattle.cards.proofs.Bracket.{many_turned}
 use Rattle.rules.specs.declared.Player.{Player}
 use Rattle.rules.specs.declared.Player.TheVariants.{House, Guest}
 use Rattle.rules.specs.declared.Sheet.{Sheet}
-use Rattle.rules.specs.declared.Ends.{Ends}
 use Rattle.rules.specs.Play.{other, opening, checked, facing, Sight, Place, end, dealt, turn, Places, no_more, also, purse, game}
 use Rattle.rules.specs.Sights.{is_same_player, met, met_all, known, sights, place, at_turn, weighed, numbered, numbered_all, tree, words, words_all}
 use Rattle.rules.specs.Memory.{Step, Phase, at, shut, phase, actor, late, open_choices, past, offered, moves, nobody, told, choices_of, Weighs, Dealable}

@@ -3,9 +3,7 @@ use Rattle.std.proofs.Common.{◌≡◌, ℕ, zero, suc, ◌<◌, false, List, [
 use Rattle.std.proofs.lemmas.Bool.{both_ways}
 use Rattle.cards.specs.Game.{total}
 use Rattle.cards.specs.Floor.{after, next, nth}
-use Rattle.rules.specs.declared.Player.{Player}
 use Rattle.rules.specs.declared.Player.TheVariants.{House}
-use Rattle.rules.specs.declared.Sheet.{Sheet}
 use Rattle.rules.specs.Memory.{Dealable}
 use Rattle.rules.specs.Statements.{choices, Plans, small, planned, two, SmallRows}
 use Rattle.rules.proofs.Sheets.{reckoned}

@@ -1,7 +1,6 @@
 -- Numbering on the walk gives the tree.
 use Rattle.std.proofs.Common.{◌≡◌, ℕ, List, [], ◌++◌, sym, refl, ap, ◌∙◌, ap₂, append_assoc, append-nil}
 use Rattle.cards.specs.Game.{deal, ours, theirs, more}
-use Rattle.rules.specs.declared.Player.{Player}
 use Rattle.rules.specs.declared.Player.TheVariants.{House, Guest}
 use Rattle.rules.specs.Play.{Sight, Place, end, dealt, turn, Places, no_more, also, game}
 use Rattle.rules.specs.Sights.{met, met_all, note, gather, place, weights, numbered, numbered_all}

@@ -1,9 +1,9 @@
 -- What a sight holds: all earlier sights and choices of its player, and how many choices there are. Assumes nothing: these are definitions.
-use Rattle.std.specs.Prelude.{◌≡◌, ℕ, zero, suc, ◌-◌, ◌*◌, ◌%◌, ◌<◌, ◌≤◌, Bool, true, false, List, [], ◌∷◌, length, Some, None, Option, slice_index_or}
+use Rattle.std.specs.Prelude.{◌≡◌, ℕ, zero, suc, ◌-◌, ◌*◌, ◌%◌, ◌<◌, ◌≤◌, Bool, true, false, List, [], ◌∷◌, length, None, Option, slice_index_or}
 use Rattle.cards.specs.Game.{Plan, total, pick}
 use Rattle.cards.specs.Played.{Move}
 use Rattle.rules.specs.declared.Player.{Player}
-use Rattle.rules.specs.declared.Player.TheVariants.{House, Guest}
+use Rattle.rules.specs.declared.Player.TheVariants.{House}
 use Rattle.rules.specs.declared.Sheet.{Sheet}
 use Rattle.rules.specs.Play.{other, Sight, Stand, opening, checked, facing, offers}
 use Rattle.rules.specs.Sights.{is_same_player, place}

@@ -1,10 +1,9 @@
 -- The tree of a rule sheet: its sights are numbered for each player in the order in which they are first met. Assumes nothing: these are definitions.
-use Rattle.std.specs.Prelude.{◌≡◌, ℕ, zero, suc, ◌+◌, ◌-◌, ◌*◌, ◌/◌, max, Bool, true, false, not, ◌&&◌, ◌||◌, List, [], ◌∷◌, ◌++◌, length, Some, None, Option, ◌==◌}
+use Rattle.std.specs.Prelude.{ℕ, suc, ◌*◌, ◌/◌, max, Bool, true, false, ◌&&◌, ◌||◌, List, [], ◌∷◌, ◌++◌, Some, None, Option, ◌==◌}
 use Rattle.cards.specs.Game.{Tree, over, deal, ours, theirs, Trees, none, more, pick, total}
 use Rattle.rules.specs.declared.Player.{Player}
 use Rattle.rules.specs.declared.Player.TheVariants.{House, Guest}
 use Rattle.rules.specs.declared.Sheet.{Sheet}
-use Rattle.rules.specs.declared.Ends.{Ends}
 use Rattle.rules.specs.Play.{Sight, Place, end, dealt, turn, Places, no_more, also, game}
 
 abbrev pub is_same_player : Player → Player → Bool

@@ -1,6 +1,5 @@
 -- A rule sheet within its ranges. Assumes nothing: these are definitions.
-use Rattle.std.specs.Prelude.{◌≡◌, ℕ, ◌*◌, ◌≤◌, Bool, true}
-use Rattle.rules.specs.declared.Bets.{Bets}
+use Rattle.std.specs.Prelude.{◌≡◌, ℕ, ◌*◌, ◌≤◌, true}
 use Rattle.rules.specs.declared.Sheet.{Sheet}
 
 -- low ≤ x ≤ high

@@ -6,7 +6,6 @@ use Rattle.cards.specs.Played.{Recalls}
 use Rattle.cards.specs.Reckon.{worst}
 use Rattle.rules.specs.declared.Player.{Player}
 use Rattle.rules.specs.declared.Player.TheVariants.{House, Guest}
-use Rattle.rules.specs.declared.Bets.{Bets}
 use Rattle.rules.specs.declared.Sheet.{Sheet}
 use Rattle.rules.specs.declared.Ends.{Ends}
 use Rattle.rules.specs.Play.{other, Sight, Place, end, dealt, turn, Places, also, purse, game}

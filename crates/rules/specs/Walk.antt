@@ -1,10 +1,8 @@
 -- The sights can be numbered while the tree is gone through: a number once given stays. Assumes nothing: these are definitions.
 use Rattle.std.specs.Prelude.{◌≡◌, ℕ, List, []}
 use Rattle.cards.specs.Game.{Tree, over, deal, Trees, none, more, pick}
-use Rattle.rules.specs.declared.Player.{Player}
 use Rattle.rules.specs.declared.Player.TheVariants.{House, Guest}
 use Rattle.rules.specs.declared.Sheet.{Sheet}
-use Rattle.rules.specs.declared.Ends.{Ends}
 use Rattle.rules.specs.Play.{Sight, Place, end, dealt, turn, Places, no_more, also, game}
 use Rattle.rules.specs.Sights.{is_same_player, met, note, gather, place, at_turn, weights, tree}
 

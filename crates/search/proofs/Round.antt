@@ -1,5 +1,5 @@
 -- What is encoded is read again. Assumes nothing.
-use Rattle.std.proofs.Common.{◌≡◌, ℕ, suc, ◌+◌, ◌*◌, ◌/◌, ◌%◌, ◌≤◌, Bool, true, false, ◌&&◌, ltb, leb, List, [], ◌∷◌, ◌++◌, length, get_or, drop, Some, None, Ok, sym, refl, ap, ◌∙◌, arith}
+use Rattle.std.proofs.Common.{◌≡◌, ℕ, suc, ◌+◌, ◌*◌, ◌/◌, ◌%◌, Bool, true, false, ◌&&◌, ltb, leb, List, [], ◌∷◌, ◌++◌, length, drop, Some, None, Ok, refl, ap, ◌∙◌, arith}
 use Rattle.cards.specs.Game.{pick, total}
 use Rattle.std.proofs.lemmas.Bool.{eq-eqb}
 use Rattle.tree.specs.declared.Sight.{Sight}
@@ -10,7 +10,7 @@ use Rattle.plans.specs.Refusals.{holds}
 use Rattle.plans.specs.Numbers.{number_of_bytes, numbers}
 use Rattle.plans.specs.Bytes.{counts, bytes_of, row_of, rows_of, uneven, evened, plan_as}
 use Rattle.search.specs.Taken.{Fair, Taken}
-use Rattle.search.specs.Encoded.{four, row_bytes, encoded}
+use Rattle.search.specs.Encoded.{row_bytes, encoded}
 
 -- whether there are three choices
 abbrev three_offered : ℕ → Sight → Bool

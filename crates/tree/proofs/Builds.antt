@@ -1,11 +1,8 @@
 -- The tree of a rule sheet lies in the memory. Assumes nothing.
-use Rattle.std.proofs.Common.{◌≡◌, ℕ, zero, suc, ◌+◌, ◌*◌, ◌≤◌, Bool, true, false, leb, ◌⊎◌, List, [], ◌∷◌, ◌++◌, map, length, drop, Ok, Err, sym, refl, ap, ◌∙◌, subst, inl, inr}
+use Rattle.std.proofs.Common.{◌≡◌, ℕ, ◌*◌, Bool, true, false, leb, List, ◌++◌, map, length, drop, Ok, Err, sym, ap, ◌∙◌, subst}
 use Rattle.cards.specs.Game.{Tree, pick}
-use Rattle.std.proofs.lemmas.Bool.{cases_Bool, leb-true}
-use Rattle.rules.specs.declared.Player.{Player}
 use Rattle.rules.specs.declared.Player.TheVariants.{House, Guest}
 use Rattle.rules.specs.declared.Sheet.{Sheet}
-use Rattle.rules.specs.declared.Ends.{Ends}
 use Rattle.rules.specs.Play as R
 use Rattle.rules.specs.Play.{purse}
 use Rattle.rules.specs.Sights as S
@@ -14,14 +11,13 @@ use Rattle.rules.proofs.Sheets.{ends_sum}
 use Rattle.rules.proofs.Passed.{ok_same, no_ok}
 use Rattle.tree.specs.declared.Sight.{Sight}
 use Rattle.tree.specs.declared.Node.{Node}
-use Rattle.tree.specs.declared.Chair.{Chair}
 use Rattle.tree.specs.declared.Sizes.{Sizes}
 use Rattle.tree.specs.declared.Refusal.TheVariants.{NoRoom, NoSightRoom, TooLarge}
-use Rattle.tree.specs.Compact.{size, game_as}
+use Rattle.tree.specs.Compact.{game_as}
 use Rattle.tree.specs.Rep.{Rep}
 use Rattle.tree.specs.Seen.{sights_of, place_of}
 use Rattle.tree.specs.Told.{told}
-use Rattle.tree.specs.Built.{admitted, nodes_of, sizes_of, Begins, Laid}
+use Rattle.tree.specs.Built.{admitted, nodes_of, Begins, Laid}
 use Rattle.tree.proofs.Lay.{length_flat}
 use Rattle.tree.proofs.Like.{Like, game_like}
 use Rattle.tree.proofs.Numbers.{sights_to, sights_valid}

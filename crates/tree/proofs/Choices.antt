@@ -1,6 +1,6 @@
 -- Reading a choice back. Assumes nothing.
-use Rattle.std.proofs.Common.{◌≡◌, ℕ, zero, suc, ◌+◌, ◌-◌, ◌<◌, ◌≤◌, List, [], ◌∷◌, ◌++◌, length, Some, None, Option, sym, refl, ap, ◌∙◌, add-zero, arith}
-use Rattle.tree.specs.Told.{checks_listed, up, listed, ended, nth}
+use Rattle.std.proofs.Common.{◌≡◌, ℕ, zero, suc, ◌+◌, ◌-◌, ◌<◌, ◌≤◌, List, [], ◌∷◌, ◌++◌, length, Some, None, sym, refl, ap, ◌∙◌, add-zero, arith}
+use Rattle.tree.specs.Told.{checks_listed, listed, ended, nth}
 
 pub checked_in : (c i : ℕ) → i < c → nth (checks_listed c) i ≡ Some 0
 checked_in zero i h = absurd (omega arith)

@@ -1,12 +1,11 @@
 -- How many places there are. Assumes nothing.
-use Rattle.std.proofs.Common.{◌≡◌, ℕ, zero, suc, ◌+◌, ◌-◌, ◌*◌, ◌<◌, ◌≤◌, Bool, true, false, List, [], ◌∷◌, ◌++◌, length, get_or, take, sym, refl, ap, ◌∙◌, add-mul, mul-le-mul, one-mul, arith}
+use Rattle.std.proofs.Common.{◌≡◌, ℕ, zero, suc, ◌+◌, ◌*◌, ◌≤◌, Bool, true, false, List, [], ◌∷◌, length, sym, refl, ap, ◌∙◌, add-mul, mul-le-mul, one-mul, arith}
 use Rattle.cards.specs.Game.{pick}
 use Rattle.rules.specs.declared.Player.{Player}
 use Rattle.rules.specs.declared.Sheet.{Sheet}
-use Rattle.rules.specs.declared.Bets.{Bets}
 use Rattle.tree.specs.declared.Hand.{Hand}
 use Rattle.tree.specs.declared.Act.TheVariants.{Check, Bet, Call, Raise}
-use Rattle.tree.specs.Compact.{Play, Plays, end, size, sizes, answers_as, round_as, each, deals_as, first_as, second_as, shown_as, higher_as, paired_as, acted_as, due_of, shows}
+use Rattle.tree.specs.Compact.{Play, end, size, sizes, answers_as, round_as, each, first_as, second_as, shown_as, higher_as, paired_as, acted_as, due_of, shows}
 use Rattle.rules.specs.Play.{left, purse, other}
 use Rattle.tree.specs.Flat.{bet_size, first_size}
 

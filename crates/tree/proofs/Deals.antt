@@ -1,10 +1,10 @@
 -- Writing a deal rank by rank. Assumes nothing.
-use Rattle.std.proofs.Common.{◌≡◌, ℕ, zero, suc, ◌+◌, ◌-◌, ◌*◌, ◌<◌, ◌≤◌, List, [], ◌∷◌, ◌++◌, length, get_or, take, drop, set, sym, refl, ap, ◌∙◌, subst, add-zero, arith, length-append, take-append-drop}
+use Rattle.std.proofs.Common.{◌≡◌, ℕ, zero, suc, ◌+◌, ◌<◌, ◌≤◌, List, [], ◌∷◌, ◌++◌, length, get_or, take, drop, sym, refl, ap, ◌∙◌, add-zero, arith, length-append, take-append-drop}
 use Rattle.std.proofs.lemmas.List.{append_assoc, append-nil, take_more, length-take-le, take-take}
 use Rattle.tree.specs.declared.Node.{Node}
-use Rattle.tree.specs.Compact.{Play, Plays, no_more, also, size, sizes, each}
+use Rattle.tree.specs.Compact.{Play, no_more, size, sizes, each}
 use Rattle.rules.specs.Play.{left}
-use Rattle.tree.specs.Flat.{unnumbered, flats, raw, put, Written}
+use Rattle.tree.specs.Flat.{unnumbered, raw, put, Written}
 use Rattle.cards.specs.Game.{total}
 use Rattle.tree.proofs.Put.{put_more}
 use Rattle.tree.proofs.Lay.{Rows, raws, length_flats, length_flat}

@@ -1,9 +1,8 @@
 -- The deck as an array of which the first ranks are in play. Assumes nothing.
-use Rattle.std.proofs.Common.{◌≡◌, ℕ, zero, suc, ◌≤◌, List, [], ◌∷◌, get_or, take, set, replicate, sym, refl, ap, ◌∙◌}
+use Rattle.std.proofs.Common.{◌≡◌, ℕ, zero, suc, ◌≤◌, List, [], ◌∷◌, take, replicate, refl, ap, ◌∙◌}
 use mathlib.Core.Path.{fun_ext}
 use Rattle.std.proofs.lemmas.List.{take-replicate}
 use Rattle.rules.specs.declared.Sheet.{Sheet}
-use Rattle.rules.specs.declared.Bets.{Bets}
 use Rattle.tree.specs.Compact.{Play, deals_as, first_as, sits, game_as}
 use Rattle.rules.specs.Play.{without}
 use Rattle.tree.specs.Flat.{second_card}

@@ -1,5 +1,5 @@
 -- What an act leaves room for. Assumes nothing.
-use Rattle.std.proofs.Common.{◌≡◌, ℕ, ◌+◌, ◌-◌, ◌*◌, ◌<◌, ◌≤◌, Some, None, Option, sym, refl, ap, ◌∙◌, arith}
+use Rattle.std.proofs.Common.{ℕ, ◌+◌, ◌≤◌, Some, None, Option, arith}
 use Rattle.rules.specs.declared.Player.{Player}
 use Rattle.rules.specs.declared.Player.TheVariants.{House, Guest}
 use Rattle.tree.specs.declared.Line.{Line}
@@ -8,8 +8,7 @@ use Rattle.tree.specs.declared.Paid.{Paid}
 use Rattle.tree.specs.declared.Hand.{Hand}
 use Rattle.tree.specs.declared.Act.{Act}
 use Rattle.tree.specs.declared.Act.TheVariants.{Check, Bet, Call, Raise}
-use Rattle.tree.specs.Compact.{paid_by, pays_as, hears_in, hears_as, acted_as, due_of, line_as}
-use Rattle.rules.specs.Play.{other}
+use Rattle.tree.specs.Compact.{paid_by, pays_as, hears_in, acted_as, due_of, line_as}
 use Rattle.tree.specs.Flat.{Fair}
 
 pub fair_less : (j k : ℕ) (h : Hand) → j ≤ k → Fair k h → Fair j h

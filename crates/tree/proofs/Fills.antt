@@ -1,5 +1,5 @@
 -- The tree and its sights in lent memory. Assumes nothing.
-use Rattle.std.proofs.Common.{◌≡◌, ℕ, zero, suc, ◌+◌, ◌-◌, ◌*◌, ◌<◌, ◌≤◌, Bool, true, false, ◌⊎◌, List, [], ◌∷◌, ◌++◌, map, length, get_or, drop, replicate, Some, None, Option, sym, refl, ap, ◌∙◌, subst, inl, inr, arith}
+use Rattle.std.proofs.Common.{◌≡◌, ℕ, zero, suc, ◌+◌, ◌<◌, ◌≤◌, Bool, true, false, ◌⊎◌, List, [], ◌∷◌, ◌++◌, map, length, get_or, replicate, Some, None, Option, sym, refl, ap, ◌∙◌, subst, inl, inr, arith}
 use Rattle.std.proofs.lemmas.List.{append-nil, drop_all, length-map}
 use Rattle.std.proofs.lemmas.Bool.{both_ways}
 use Rattle.rules.specs.declared.Player.{Player}
@@ -9,21 +9,20 @@ use Rattle.rules.specs.Play as R
 use Rattle.rules.specs.Sights as S
 use Rattle.rules.specs.Sound.{Sound}
 use Rattle.tree.specs.declared.Line.{Line}
-use Rattle.tree.specs.declared.History.{History}
 use Rattle.tree.specs.declared.Sight.{Sight}
 use Rattle.tree.specs.declared.Node.{Node}
 use Rattle.tree.specs.Rep.{node_at}
-use Rattle.tree.specs.Compact.{Play, size, game_as}
+use Rattle.tree.specs.Compact.{game_as}
 use Rattle.tree.specs.Flat.{raw, unnumbered, put, Written}
 use Rattle.tree.specs.Seen.{noted, sight_at, seen_in, as_list, met, sights_of, numbered_node}
-use Rattle.tree.specs.Slots.{slot_of, public_slot, line_slot, InRange, Ready}
+use Rattle.tree.specs.Slots.{InRange, Ready}
 use Rattle.tree.specs.Told.{told}
 use Rattle.tree.specs.Built.{Begins, nodes_of}
 use Rattle.tree.proofs.Lay.{length_flat}
 use Rattle.tree.proofs.Sees.{seen_flat, flat_numbered}
-use Rattle.tree.proofs.Valid.{line_of, Going, Ended, both_checked, called, ValidIn, Valid}
+use Rattle.tree.proofs.Valid.{Ended, both_checked, called, ValidIn, Valid}
 use Rattle.tree.proofs.Like.{Like, game_like}
-use Rattle.tree.proofs.Numbers.{All, void, and, met_valid, sights_to}
+use Rattle.tree.proofs.Numbers.{All, and, met_valid, sights_to}
 use Rattle.tree.proofs.Measures.{size_is}
 
 -- a valid sight has its slot

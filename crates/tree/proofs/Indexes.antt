@@ -1,7 +1,7 @@
 -- Numbers by tables are numbers by lists. Assumes nothing.
-use Rattle.std.proofs.Common.{◌≡◌, ℕ, zero, suc, ◌+◌, ◌-◌, ◌<◌, ◌≤◌, Bool, true, false, ◌||◌, ◌⊎◌, List, [], ◌∷◌, ◌++◌, map, length, get_or, drop, Some, None, Option, sym, refl, ap, ◌∙◌, subst, inl, inr, zero-add, arith}
+use Rattle.std.proofs.Common.{◌≡◌, ℕ, zero, suc, ◌-◌, ◌<◌, Bool, true, false, List, [], ◌∷◌, ◌++◌, map, length, get_or, drop, Some, refl, ap, ◌∙◌, subst, inl, inr, zero-add, arith}
 use Rattle.cards.specs.Game.{pick}
-use Rattle.std.proofs.lemmas.Bool.{or_cases, or_left, or_right, cases_Bool}
+use Rattle.std.proofs.lemmas.Bool.{or_cases, or_left, or_right}
 use Rattle.rules.specs.declared.Player.{Player}
 use Rattle.rules.specs.declared.Player.TheVariants.{House as Ours, Guest as Theirs}
 use Rattle.tree.specs.declared.Sight.{Sight}
@@ -11,7 +11,7 @@ use Rattle.tree.specs.declared.Node.{Node}
 use Rattle.tree.specs.Rep.{node, node_at}
 use Rattle.tree.specs.Flat.{put, Noted}
 use Rattle.tree.specs.Seen.{same_stored_sight, place_of, known, noted, as_list, sight_at, seen_in, numbered_place, numbered_node}
-use Rattle.tree.specs.Slots.{slot_of, InRange, entry_of, Tabled, Ranged, tabled_place, tabled_node, Slotted, Ready}
+use Rattle.tree.specs.Slots.{slot_of, Tabled, tabled_place, tabled_node, Slotted, Ready}
 use Rattle.tree.specs.Built.{Begins}
 use Rattle.tree.proofs.Equal.{sight_same, sight_itself}
 

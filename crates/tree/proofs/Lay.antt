@@ -1,5 +1,5 @@
 -- Writing a played hand place by place. Assumes nothing.
-use Rattle.std.proofs.Common.{◌≡◌, ℕ, suc, ◌+◌, ◌-◌, ◌<◌, ◌≤◌, List, [], ◌∷◌, ◌++◌, length, take, drop, set, sym, refl, ap, ◌∙◌, arith, length-append}
+use Rattle.std.proofs.Common.{◌≡◌, ℕ, suc, ◌+◌, ◌-◌, ◌<◌, ◌≤◌, List, [], ◌∷◌, length, set, sym, refl, ap, ◌∙◌, arith, length-append}
 use Rattle.rules.specs.declared.Player.{Player}
 use Rattle.rules.specs.declared.Ends.{Ends}
 use Rattle.tree.specs.declared.Sight.{Sight}

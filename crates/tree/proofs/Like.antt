@@ -1,27 +1,24 @@
 -- The game by its own definitions and the game as the code keeps it, side by side. Assumes nothing.
-use Rattle.std.proofs.Common.{◌≡◌, ℕ, zero, suc, ◌+◌, ◌-◌, ◌*◌, ◌<◌, ◌≤◌, Bool, true, false, not, ◌&&◌, eqb, ltb, List, [], ◌∷◌, ◌++◌, map, length, get_or, set, replicate, Some, None, Option, sym, refl, ap, ◌∙◌, subst, append-nil, add-one, arith, length-set}
+use Rattle.std.proofs.Common.{◌≡◌, ℕ, zero, suc, ◌+◌, ◌-◌, ◌<◌, ◌≤◌, Bool, true, false, not, ◌&&◌, eqb, ltb, List, [], ◌∷◌, ◌++◌, map, length, get_or, replicate, Some, None, Option, sym, refl, ap, ◌∙◌, subst, append-nil, add-one, arith, length-set}
 use lib.ListN.{length-replicate}
 use Rattle.cards.specs.Game.{pick}
 use Rattle.std.proofs.lemmas.List.{map-append}
 use Rattle.rules.specs.declared.Player.{Player}
 use Rattle.rules.specs.declared.Player.TheVariants.{House, Guest}
-use Rattle.rules.specs.declared.Bets.{Bets}
 use Rattle.rules.specs.declared.Sheet.{Sheet}
 use Rattle.rules.specs.declared.Ends.{Ends}
 use Rattle.rules.specs.Play as R
 use Rattle.rules.specs.Play.{other, purse, split, left, without, check, bet, call, raise}
 use Rattle.rules.specs.Sights as S
-use Rattle.tree.specs.declared.Line.{Line}
 use Rattle.tree.specs.declared.History.{History}
 use Rattle.tree.specs.declared.Sight.{Sight}
-use Rattle.tree.specs.declared.Paid.{Paid}
 use Rattle.tree.specs.declared.Hand.{Hand}
 use Rattle.tree.specs.declared.Act.{Act}
 use Rattle.tree.specs.declared.Act.TheVariants.{Check, Bet, Call, Raise}
-use Rattle.tree.specs.Compact.{Play, end, dealt, turn, Plays, no_more, also, paid_by, rank_of, sight_of, won_by_as, higher_as, paired_as, settled_as, due_of, hears_in, hears_as, pays_as, acted_as, answers_as, opens_as, round_as, each, deals_as, shows, shown_as, second_as, first_as, sits, game_as}
+use Rattle.tree.specs.Compact.{Play, end, dealt, turn, Plays, no_more, also, rank_of, sight_of, won_by_as, higher_as, paired_as, settled_as, due_of, hears_in, hears_as, acted_as, answers_as, round_as, each, shows, shown_as, second_as, sits, game_as}
 use Rattle.tree.specs.Seen.{met, met_all, own_turn, as_list}
-use Rattle.tree.specs.Told.{checks_listed, listed, ended, history_choices, told}
-use Rattle.tree.proofs.Valid.{line_of, Going, Ended, both_checked, called, ValidIn, Valid}
+use Rattle.tree.specs.Told.{listed, ended, history_choices, told}
+use Rattle.tree.proofs.Valid.{line_of, Ended, both_checked, called, Valid}
 
 module _ (x : ℕ) (p : Bool) where
   mutual

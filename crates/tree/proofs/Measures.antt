@@ -1,7 +1,6 @@
 -- How large the tree of a rule sheet is. Assumes nothing.
-use Rattle.std.proofs.Common.{◌≡◌, ℕ, zero, suc, ◌+◌, ◌*◌, ◌≤◌, Bool, true, false, List, [], ◌∷◌, length, sym, refl, ap, ◌∙◌, subst, arith}
+use Rattle.std.proofs.Common.{◌≡◌, ℕ, suc, ◌*◌, Bool, List, sym, refl, ap, ◌∙◌, arith}
 use Rattle.cards.specs.Reckon.{places, places_all}
-use Rattle.rules.specs.declared.Player.{Player}
 use Rattle.rules.specs.declared.Player.TheVariants.{House, Guest}
 use Rattle.rules.specs.declared.Sheet.{Sheet}
 use Rattle.rules.specs.Play as R
@@ -11,10 +10,8 @@ use Rattle.rules.specs.Sound.{Sound}
 use Rattle.rules.specs.Counts.{count_of_sights, word_count, WordsAre, SightsAre}
 use Rattle.rules.proofs.CountWords.{words_are}
 use Rattle.rules.proofs.CountSights.{sights_are}
-use Rattle.tree.specs.declared.Chair.{Chair}
-use Rattle.tree.specs.declared.Sizes.{Sizes}
 use Rattle.tree.specs.Compact.{Play, Plays, size, sizes, game_as}
-use Rattle.tree.specs.Built.{sizes_of, chair_of, Measured}
+use Rattle.tree.specs.Built.{sizes_of, Measured}
 use Rattle.tree.proofs.Like.{Like, ends, deals, turns, Likes, nil, both, game_like}
 
 module _ (x : ℕ) (p : Bool) where

@@ -1,25 +1,24 @@
 -- How many choices a stored sight offers. Assumes nothing.
-use Rattle.std.proofs.Common.{◌≡◌, ℕ, zero, suc, ◌+◌, ◌-◌, ◌<◌, ◌≤◌, Bool, true, false, ◌&&◌, ltb, leb, List, [], ◌∷◌, ◌++◌, map, length, get_or, Some, None, Option, sym, refl, ap, ◌∙◌, subst, append-nil, arith}
+use Rattle.std.proofs.Common.{◌≡◌, ℕ, zero, suc, ◌-◌, ◌<◌, ◌≤◌, Bool, true, false, ◌&&◌, leb, List, [], ◌∷◌, ◌++◌, length, get_or, Some, None, Option, sym, refl, ap, ◌∙◌, append-nil, arith}
 use Rattle.cards.specs.Game.{pick}
 use Rattle.std.proofs.lemmas.Bool.{le-leb, lt-leb, lt-ltb}
 use Rattle.std.proofs.lemmas.List.{get_or-map, length-map}
 use Rattle.rules.specs.declared.Player.{Player}
-use Rattle.rules.specs.declared.Player.TheVariants.{House, Guest}
 use Rattle.rules.specs.declared.Sheet.{Sheet}
 use Rattle.rules.specs.Play as R
 use Rattle.rules.specs.Play.{other, Stand, opening, checked, facing, offers}
 use Rattle.rules.specs.Sights as S
 use Rattle.rules.specs.Sound.{Sound}
-use Rattle.rules.specs.Memory.{Phase, at, shut, less, moved, phase, open_choices, offered, nobody, choices_of}
+use Rattle.rules.specs.Memory.{at, less, moved, phase, open_choices, offered, nobody}
 use Rattle.rules.specs.Statements.{choices}
 use Rattle.tree.specs.declared.Line.{Line}
 use Rattle.tree.specs.declared.Sight.{Sight}
 use Rattle.tree.specs.Compact.{game_as}
 use Rattle.tree.specs.Seen.{sights_of}
-use Rattle.tree.specs.Told.{checks_listed, up, listed, ended, choices_in, told, line_now, offered_by, offers_of}
-use Rattle.tree.proofs.Valid.{line_of, Ended, both_checked, called, ValidIn, Valid}
+use Rattle.tree.specs.Told.{checks_listed, listed, ended, choices_in, told, line_now, offered_by, offers_of}
+use Rattle.tree.proofs.Valid.{Ended, both_checked, called, ValidIn, Valid}
 use Rattle.tree.proofs.Like.{game_like}
-use Rattle.tree.proofs.Numbers.{All, void, and, sights_to, sights_valid}
+use Rattle.tree.proofs.Numbers.{All, and, sights_to, sights_valid}
 
 less_is : (n : ℕ) → less n ≡ n - 1
 less_is zero = refl

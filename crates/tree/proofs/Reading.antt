@@ -1,10 +1,9 @@
 -- What is laid out can be read as the tree of the rule sheet. Assumes nothing.
-use Rattle.std.proofs.Common.{◌≡◌, ℕ, zero, suc, ◌+◌, ◌-◌, ◌*◌, ◌/◌, ◌<◌, ◌≤◌, Bool, true, false, List, [], ◌∷◌, ◌++◌, map, length, get_or, drop, sym, refl, ap, ◌∙◌, subst, add-zero, mul-zero, arith, length-drop}
+use Rattle.std.proofs.Common.{◌≡◌, ℕ, suc, ◌+◌, ◌-◌, ◌*◌, ◌/◌, ◌<◌, Bool, List, [], ◌∷◌, ◌++◌, map, length, drop, sym, refl, ap, ◌∙◌, subst, add-zero, mul-zero, arith, length-drop}
 use native.Mathlib.Nat.{zero-div}
 use Rattle.std.proofs.lemmas.List.{append_assoc, drop-drop, drop_at, get_or-drop}
 use Rattle.cards.specs.Game.{Tree, Trees, total}
 use Rattle.cards.specs.Reckon.{places, places_all}
-use Rattle.rules.specs.declared.Player.{Player}
 use Rattle.rules.specs.declared.Player.TheVariants.{House as Ours, Guest as Theirs}
 use Rattle.rules.specs.declared.Ends.{Ends}
 use Rattle.rules.specs.Play as R
@@ -15,7 +14,7 @@ use Rattle.tree.specs.declared.Sight.{Sight}
 use Rattle.tree.specs.declared.Place.{Place}
 use Rattle.tree.specs.declared.Place.TheVariants.{Over, Deal, House, Guest}
 use Rattle.tree.specs.declared.Node.{Node}
-use Rattle.tree.specs.Compact.{Play, end, dealt, turn, Plays, no_more, also, size, sizes}
+use Rattle.tree.specs.Compact.{Play, end, dealt, turn, Plays, size, sizes}
 use Rattle.tree.specs.Flat.{flat, flats}
 use Rattle.tree.specs.Rep.{node, node_at, Stands, ends_of, first_of, rest_of, Rep, Reps, Weighed}
 use Rattle.tree.specs.Seen.{place_of}

@@ -1,17 +1,16 @@
 -- Writing a round of betting. Assumes nothing.
-use Rattle.std.proofs.Common.{◌≡◌, ℕ, zero, suc, ◌+◌, ◌-◌, ◌*◌, ◌<◌, ◌≤◌, List, [], ◌∷◌, ◌++◌, length, set, sym, refl, ap, ◌∙◌, subst, arith}
+use Rattle.std.proofs.Common.{◌≡◌, ℕ, zero, suc, ◌+◌, ◌-◌, ◌<◌, ◌≤◌, List, [], length, set, sym, refl, ap, ◌∙◌, subst, arith}
 use Rattle.rules.specs.declared.Player.{Player}
 use Rattle.rules.specs.declared.Ends.{Ends}
 use Rattle.tree.specs.declared.Hand.{Hand}
 use Rattle.tree.specs.declared.Place.{Place}
 use Rattle.tree.specs.declared.Node.{Node}
-use Rattle.tree.specs.declared.Act.{Act}
 use Rattle.tree.specs.declared.Act.TheVariants.{Check, Bet, Call, Raise}
-use Rattle.tree.specs.Compact.{Play, end, dealt, turn, Plays, no_more, also, size, sizes, won_by_as, sight_of, acted_as, due_of, answers_as, opens_as}
+use Rattle.tree.specs.Compact.{Play, end, turn, no_more, also, size, won_by_as, sight_of, acted_as, due_of, answers_as, opens_as}
 use Rattle.rules.specs.Play.{other}
 use Rattle.tree.specs.Flat.{unnumbered, seat, Written}
 use Rattle.tree.specs.Rep.{node}
-use Rattle.tree.proofs.Lay.{Rows, rows_none, rows_also, turn_written}
+use Rattle.tree.proofs.Lay.{rows_none, rows_also, turn_written}
 
 pub carry : (c at k : ℕ) (xs ys : List Node) {p q : Play} → p ≡ q → Written c p at xs ys k → Written c q at xs ys k
 carry c at k xs ys e w = let P : Play → Type 0 = λ p. Written c p at xs ys k in subst P e w

@@ -1,19 +1,18 @@
 -- Looking sights up, noting and numbering them. Assumes nothing.
-use Rattle.std.proofs.Common.{◌≡◌, ℕ, zero, suc, ◌+◌, ◌-◌, ◌<◌, ◌≤◌, Bool, true, false, ◌&&◌, ◌||◌, List, [], ◌∷◌, ◌++◌, map, length, get_or, take, drop, set, Some, None, Option, sym, refl, ap, ◌∙◌, subst, arith, length-append, take-append-drop}
+use Rattle.std.proofs.Common.{◌≡◌, ℕ, suc, ◌+◌, ◌<◌, ◌≤◌, Bool, true, false, ◌||◌, List, [], ◌∷◌, ◌++◌, map, length, get_or, take, drop, set, Some, None, sym, refl, ap, ◌∙◌, arith, take-append-drop}
 use Rattle.cards.specs.Game.{pick}
 use Rattle.std.proofs.lemmas.List.{append_assoc, append-nil, take_more, drop_more, drop_all, take_all, length-take-le, take_at, set_at, get_or_at, map_more, map-append, length-map, length_push}
 use Rattle.rules.specs.declared.Player.{Player}
 use Rattle.rules.specs.declared.Player.TheVariants.{House, Guest}
 use Rattle.tree.specs.declared.Sight.{Sight}
 use Rattle.tree.specs.declared.Node.{Node}
-use Rattle.tree.specs.declared.Place.{Place}
 use Rattle.tree.specs.declared.Place.TheVariants.{Deal}
 use Rattle.tree.specs.Compact.{Play, end, dealt, turn, Plays, no_more, also, sizes}
 use Rattle.tree.specs.Flat.{seat, flat, flats, raw, unnumbered, put, Noted}
 use Rattle.tree.specs.Rep.{node, first_of, rest_of}
 use Rattle.cards.specs.Game.{total}
-use Rattle.tree.specs.Seen.{same_stored_sight, place_of, known, noted, as_list, own_turn, sight_at, seen_in, met, met_all, sights_of, numbered_place, numbered_node}
-use Rattle.tree.proofs.Put.{put_one, put_more, length_put}
+use Rattle.tree.specs.Seen.{same_stored_sight, place_of, known, noted, as_list, own_turn, sight_at, seen_in, met, met_all, numbered_place, numbered_node}
+use Rattle.tree.proofs.Put.{put_one, put_more}
 use Rattle.tree.proofs.Lay.{raws}
 
 -- a look-up, from i on

@@ -1,13 +1,11 @@
 -- A table of the sights met so far. Assumes nothing.
-use Rattle.std.proofs.Common.{◌≡◌, ℕ, zero, suc, ◌+◌, ◌*◌, ◌/◌, ◌%◌, ◌<◌, ◌≤◌, Bool, true, false, ◌&&◌, ◌||◌, eqb, ◌≢◌, ◌⊎◌, List, [], ◌∷◌, ◌++◌, length, get_or, set, Some, None, Option, sym, refl, ap, ◌∙◌, subst, inl, inr, arith}
+use Rattle.std.proofs.Common.{◌≡◌, ℕ, zero, suc, ◌+◌, ◌*◌, ◌/◌, ◌%◌, ◌<◌, Bool, true, false, ◌||◌, ◌≢◌, ◌⊎◌, List, [], ◌∷◌, ◌++◌, length, get_or, set, Some, None, Option, sym, refl, ap, ◌∙◌, inl, inr, arith}
 use lib.Arith.{digits_div, digits_mod}
 use Rattle.cards.specs.Game.{pick}
-use Rattle.std.proofs.lemmas.List.{get_or-set_same, get_or-set_other, length_push}
-use Rattle.std.proofs.lemmas.Bool.{and_parts, and_from, eqb-true, eq-eqb, cases_Bool, both_ways}
-use Rattle.tree.specs.declared.Line.{Line}
-use Rattle.tree.specs.declared.History.{History}
+use Rattle.std.proofs.lemmas.List.{get_or-set_same, get_or-set_other}
+use Rattle.std.proofs.lemmas.Bool.{cases_Bool, both_ways}
 use Rattle.tree.specs.declared.Sight.{Sight}
-use Rattle.tree.specs.Seen.{same_stored_sight, same_line, same_public_card, place_of, known}
+use Rattle.tree.specs.Seen.{same_stored_sight, place_of, known}
 use Rattle.tree.specs.Slots.{slot_of, public_slot, line_slot, InRange, entry_of, Tabled}
 use Rattle.tree.proofs.Equal.{sight_same, sight_itself}
 

@@ -1,13 +1,11 @@
 -- The sights that a game has, and that what they tell tells them apart. Assumes nothing.
-use Rattle.std.proofs.Common.{◌≡◌, ℕ, zero, suc, ◌+◌, ◌<◌, ◌≤◌, Bool, true, false, ◌&&◌, eqb, ◌⊎◌, List, [], ◌∷◌, ◌++◌, Some, None, Option, sym, refl, ap, ◌∙◌, subst, inl, inr, arith}
-use Rattle.std.proofs.lemmas.Bool.{eqb-true, eq-eqb, and_parts, and_from, both_ways}
+use Rattle.std.proofs.Common.{◌≡◌, ℕ, zero, suc, ◌+◌, ◌<◌, ◌≤◌, Bool, true, false, List, [], ◌∷◌, ◌++◌, Some, None, Option, sym, refl, ap, ◌∙◌, subst, arith}
 use Rattle.rules.specs.Play as R
 use Rattle.rules.specs.Sights as S
 use Rattle.tree.specs.declared.Line.{Line}
-use Rattle.tree.specs.declared.History.{History}
 use Rattle.tree.specs.declared.Sight.{Sight}
 use Rattle.tree.specs.Seen.{same_stored_sight}
-use Rattle.tree.specs.Told.{checks_listed, up, listed, ended, choices_in, history_choices, told}
+use Rattle.tree.specs.Told.{checks_listed, listed, ended, choices_in, told}
 use Rattle.rules.proofs.Same.{sight_eq, sight_refl}
 use Rattle.tree.proofs.Equal.{sight_same, sight_itself}
 

@@ -1,5 +1,5 @@
 -- The tree of a rule sheet in lent memory, and the refusals. Assumes nothing: these are definitions.
-use Rattle.std.specs.Prelude.{◌≡◌, ℕ, ◌+◌, ◌*◌, ◌<◌, ◌≤◌, Bool, true, false, ◌&&◌, List, [], ◌∷◌, ◌++◌, map, length, drop, Some, None, Ok, Err, Option, Result, nat_le}
+use Rattle.std.specs.Prelude.{◌≡◌, ℕ, ◌*◌, List, ◌++◌, map, length, drop, Some, None, Ok, Err, Option, Result, nat_le}
 use Rattle.cards.specs.Game.{pick}
 use Rattle.cards.specs.Promise.{turned}
 use Rattle.cards.specs.Reckon.{places}

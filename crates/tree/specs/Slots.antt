@@ -1,15 +1,14 @@
 -- A table of sights by what they hold. Assumes nothing: these are definitions.
-use Rattle.std.specs.Prelude.{◌≡◌, ℕ, zero, suc, ◌+◌, ◌-◌, ◌*◌, ◌<◌, ◌≤◌, Bool, true, false, List, [], ◌∷◌, ◌++◌, length, Some, None, Option, slice_index}
+use Rattle.std.specs.Prelude.{◌≡◌, ℕ, suc, ◌+◌, ◌-◌, ◌*◌, ◌<◌, ◌≤◌, List, [], length, Some, None, Option, slice_index}
 use Rattle.cards.specs.Game.{pick}
 use Rattle.rules.specs.declared.Player.{Player}
 use Rattle.tree.specs.declared.Line.{Line}
-use Rattle.tree.specs.declared.History.{History}
 use Rattle.tree.specs.declared.Sight.{Sight}
 use Rattle.tree.specs.declared.Place.{Place}
 use Rattle.tree.specs.declared.Place.TheVariants.{Over, Deal, House, Guest}
 use Rattle.tree.specs.declared.Node.{Node}
 use Rattle.tree.specs.Seen.{known, place_of, sight_at, seen_in, noted}
-use Rattle.tree.specs.Rep.{node, node_at}
+use Rattle.tree.specs.Rep.{node_at}
 
 abbrev pub public_slot : Option ℕ → ℕ
 public_slot None = 0

@@ -1,5 +1,5 @@
 -- What a stored sight tells: its rank, the public rank and all choices so far. Assumes nothing: these are definitions.
-use Rattle.std.specs.Prelude.{ℕ, zero, suc, Bool, ◌&&◌, List, [], ◌∷◌, ◌++◌, Some, None, Option, nat_le, nat_lt}
+use Rattle.std.specs.Prelude.{ℕ, zero, suc, ◌&&◌, List, [], ◌∷◌, ◌++◌, Some, None, Option, nat_le, nat_lt}
 use Rattle.cards.specs.Game.{pick}
 use Rattle.rules.specs.Play.{check, bet, call, raise}
 use Rattle.rules.specs.Play as R

@@ -1,20 +1,19 @@
 -- The loop over the choices at one sight.
-use Rattle.std.proofs.Common.{◌≡◌, ℕ, zero, suc, ◌+◌, ◌-◌, ◌*◌, ◌^◌, ◌<◌, ◌≤◌, min, List, [], ◌∷◌, ◌++◌, length, get_or, take, drop, sym, refl, ap, ◌∙◌, subst, mul-le-mul_left, add-one, arith, length-append, length-drop}
+use Rattle.std.proofs.Common.{◌≡◌, ℕ, zero, suc, ◌+◌, ◌-◌, ◌*◌, ◌^◌, ◌<◌, ◌≤◌, min, List, [], ◌∷◌, ◌++◌, length, get_or, take, drop, sym, refl, ap, ◌∙◌, subst, add-one, arith, length-drop}
 use Rattle.std.proofs.lemmas.List.{get_or-take, length-take, length-take-le, take_rest, take-take, take_at, drop_at, drop-take}
-use Rattle.cards.specs.Game.{Tree, over, deal, ours, theirs, Trees, Plan, many}
+use Rattle.cards.specs.Game.{Tree, over, deal, ours, theirs, Plan, many}
 use Rattle.cards.specs.Floor.{Item, after}
-use Rattle.cards.specs.Reckon.{sure_of, open_of, sight_number, least, last}
+use Rattle.cards.specs.Reckon.{open_of, sight_number, least, last}
 use Rattle.plans.specs.declared.Row.{Row}
 use Rattle.tree.specs.Rep.{Rep}
 use Rattle.tree.specs.declared.Node.{Node}
-use Rattle.worst.specs.Items.{parts, blank, Told, told_plan, Fit, StandFor, Entries, SomeTree}
-use Rattle.worst.specs.Worth.{room, mass, worth, branch, Choice, One, Each, AllAt, There}
+use Rattle.worst.specs.Items.{parts, blank, Told, told_plan, Fit, StandFor, SomeTree}
+use Rattle.worst.specs.Worth.{mass, worth, branch, Choice, AllAt, There}
 use Rattle.worst.specs.Rows.{Rows, SomeRows, SomeKth, SomeGroup, Gathered}
 use Rattle.worst.specs.declared.Entry.{Entry}
 use Rattle.worst.specs.declared.Grown.{Grown}
-use Rattle.worst.proofs.Sums.{entries_length}
 use Rattle.worst.proofs.Steps.{item0, entries_at, each_at, rows_length}
-use Rattle.worst.proofs.Worths.{FitAll, after_fit, after_room, open_of_each, open_of_room, sure_of_mass, mass_after, at_there, worth_open, worth_le}
+use Rattle.worst.proofs.Worths.{after_fit, after_room, open_of_each, open_of_room, sure_of_mass, mass_after, at_there, worth_open, worth_le}
 
 -- the least of f 0 to f (k - 1); of none, the largest number there is
 unfoldable pub least_to : (ℕ → ℕ) → ℕ → ℕ

@@ -1,5 +1,5 @@
 -- A place of chance in memory: a deal or a choice of the house, with its trees and their weights.
-use Rattle.std.proofs.Common.{◌≡◌, ℕ, zero, suc, ◌+◌, ◌-◌, ◌*◌, ◌/◌, ◌^◌, ◌<◌, List, length, get_or, take, sym, refl, ap, ◌∙◌, subst, arith, length-take}
+use Rattle.std.proofs.Common.{◌≡◌, ℕ, zero, suc, ◌+◌, ◌<◌, List, length, get_or, take, sym, refl, ap, ◌∙◌, subst, arith, length-take}
 use Rattle.std.proofs.lemmas.List.{get_or-take}
 use Rattle.cards.specs.Game.{Tree, over, deal, ours, theirs, Trees, many, total}
 use Rattle.cards.specs.Floor.{nth}
@@ -7,10 +7,9 @@ use Rattle.cards.specs.Reckon.{places, places_all, sure, sure_all, open', open_a
 use Rattle.plans.specs.Plan.{no_row}
 use Rattle.plans.specs.declared.Row.{Row}
 use Rattle.plans.proofs.Planned.{row_inside}
-use Rattle.tree.specs.Rep.{Rep, Reps, node_at, rest_of}
+use Rattle.tree.specs.Rep.{Rep, Reps, node_at}
 use Rattle.tree.specs.declared.Node.{Node}
-use Rattle.tree.specs.declared.Place.{Place}
-use Rattle.tree.specs.declared.Place.TheVariants.{Over, Deal, House, Guest}
+use Rattle.tree.specs.declared.Place.TheVariants.{Deal, House}
 use Rattle.tree.proofs.Reps.{rep_inside, some_parts}
 use Rattle.worst.specs.Items.{Chance, firsts, Told, told_plan, Fit, Fits, weight_at, Weighable}
 use Rattle.worst.proofs.Lay.{weighed_reps, weighed_at, reps_nth}

@@ -1,8 +1,8 @@
 -- Going from tree to tree by their sizes.
-use Rattle.std.proofs.Common.{◌≡◌, ℕ, zero, suc, ◌+◌, ◌-◌, ◌*◌, ◌^◌, ◌<◌, ◌≤◌, List, length, get_or, sym, refl, ap, ◌∙◌, subst, add-zero, add-one, arith}
+use Rattle.std.proofs.Common.{◌≡◌, ℕ, suc, ◌+◌, ◌^◌, ◌<◌, ◌≤◌, List, length, sym, ◌∙◌, subst, add-one, arith}
 use Rattle.cards.specs.Game.{Tree, Trees, many}
 use Rattle.cards.specs.Floor.{nth}
-use Rattle.cards.specs.Reckon.{places, places_all}
+use Rattle.cards.specs.Reckon.{places_all}
 use Rattle.cards.proofs.AtHand.{places_pos}
 use Rattle.tree.specs.Rep.{Rep, Reps, node_at}
 use Rattle.tree.specs.declared.Node.{Node}

@@ -1,5 +1,5 @@
 -- Where the trees of a row of nodes lie.
-use Rattle.std.proofs.Common.{◌≡◌, ℕ, zero, suc, ◌+◌, ◌-◌, ◌*◌, ◌/◌, ◌<◌, ◌≤◌, List, [], ◌∷◌, get_or, sym, refl, ap, ◌∙◌, subst, arith}
+use Rattle.std.proofs.Common.{◌≡◌, ℕ, zero, suc, ◌+◌, ◌*◌, ◌/◌, ◌<◌, ◌≤◌, List, [], ◌∷◌, get_or, sym, refl, ap, ◌∙◌, subst, arith}
 use Rattle.cards.specs.Game.{Tree, over, deal, ours, theirs, Trees, none, more, many}
 use Rattle.cards.specs.Floor.{nth}
 use Rattle.cards.specs.Reckon.{places, places_all}

@@ -1,22 +1,22 @@
 -- The loop over the trees of a place of chance.
-use Rattle.std.proofs.Common.{◌≡◌, ℕ, zero, suc, ◌+◌, ◌-◌, ◌*◌, ◌^◌, ◌<◌, ◌≤◌, ◌⊎◌, List, [], ◌∷◌, ◌++◌, length, get_or, take, set, sym, refl, ap, ◌∙◌, subst, inl, inr, append_assoc, append-nil, mul-le-mul_right, mul_assoc, mul_comm, mul-le-mul_left, le-mul_of_pos_right, mul_left_comm, add-one, arith, length-append}
+use Rattle.std.proofs.Common.{◌≡◌, ℕ, suc, ◌+◌, ◌-◌, ◌*◌, ◌^◌, ◌<◌, ◌≤◌, ◌⊎◌, List, [], ◌∷◌, ◌++◌, length, get_or, take, set, sym, refl, ap, ◌∙◌, subst, inl, inr, append_assoc, append-nil, mul-le-mul_right, mul_assoc, mul_comm, mul-le-mul_left, le-mul_of_pos_right, mul_left_comm, add-one, arith, length-append}
 use native.Mathlib.Nat.{pow-succ', pow-le-pow_right, one-le-pow}
 use Rattle.std.proofs.lemmas.List.{take_more_set}
 use Rattle.std.proofs.lemmas.Bool.{cases_lt}
-use Rattle.cards.specs.Game.{Tree, over, deal, ours, theirs, Trees, none, more, many, Plan, total}
-use Rattle.cards.specs.Floor.{Item, nth}
+use Rattle.cards.specs.Game.{Tree, over, deal, ours, theirs, Trees, many}
+use Rattle.cards.specs.Floor.{nth}
 use Rattle.cards.specs.Reckon.{places, places_all, sure, sure_all, open', open_all}
 use Rattle.cards.proofs.AtHand.{places_pos}
 use Rattle.plans.specs.declared.Row.{Row}
-use Rattle.tree.specs.Rep.{Rep, Reps, node_at, ends_of}
+use Rattle.tree.specs.Rep.{Rep, node_at, ends_of}
 use Rattle.tree.specs.declared.Node.{Node}
 use Rattle.tree.specs.declared.Sight.{Sight}
 use Rattle.tree.specs.declared.Place.{Place}
 use Rattle.tree.specs.declared.Place.TheVariants.{Over, Deal, House, Guest}
 use Rattle.tree.proofs.Reps.{rep_inside, rep_size, rep_end}
 use Rattle.rules.specs.declared.Ends.{Ends}
-use Rattle.worst.specs.Items.{Chance, firsts, Told, told_plan, Bounds, Fit, Entries, weight_at, Weighable}
-use Rattle.worst.specs.Spread.{Ready, SomeReady, Spread, house_of, Settles, settled, settled_row}
+use Rattle.worst.specs.Items.{Chance, firsts, Told, told_plan, Fit, Entries, weight_at, Weighable}
+use Rattle.worst.specs.Spread.{Ready, SomeReady, Spread, Settles, settled, settled_row}
 use Rattle.worst.specs.declared.Entry.{Entry}
 use Rattle.worst.specs.declared.Grown.{Grown}
 use Rattle.worst.proofs.Lay.{places_more, places_firsts_le, many_places, firsts_all, reps_nth}

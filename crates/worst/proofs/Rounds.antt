@@ -1,16 +1,15 @@
 -- The loop over the sights of a row.
-use Rattle.std.proofs.Common.{◌≡◌, ℕ, zero, suc, ◌+◌, ◌-◌, ◌*◌, ◌^◌, ◌<◌, ◌≤◌, min, Bool, true, false, eqb, List, [], ◌∷◌, ◌++◌, length, get_or, take, drop, sym, refl, ap, ◌∙◌, subst, mul-le-mul_left, mul-add, arith, length-append, length-drop}
-use borrow.Rule.Slice.PartMut.{put_mid, take_put}
-use Rattle.std.proofs.lemmas.List.{get_or-take, length-take-le, take_rest, take-take, take_at}
-use Rattle.cards.specs.Game.{Tree, over, deal, ours, theirs, Trees, Plan, many, pick}
+use Rattle.std.proofs.Common.{◌≡◌, ℕ, suc, ◌+◌, ◌-◌, ◌*◌, ◌^◌, ◌<◌, ◌≤◌, true, false, eqb, List, [], ◌∷◌, length, get_or, take, drop, sym, refl, ap, ◌∙◌, subst, mul-add, arith, length-drop}
+use Rattle.std.proofs.lemmas.List.{length-take-le, take_rest, take-take, take_at}
+use Rattle.cards.specs.Game.{Tree, over, deal, ours, theirs, Plan, pick}
 use Rattle.cards.specs.Floor.{Item, after}
-use Rattle.cards.specs.Reckon.{is_at, same, others, sight_number, least, last, by_sight}
+use Rattle.cards.specs.Reckon.{is_at, same, others, sight_number, least, last}
 use Rattle.plans.specs.declared.Row.{Row}
 use Rattle.tree.specs.Rep.{Rep, node_at}
 use Rattle.tree.specs.declared.Node.{Node}
 use Rattle.tree.proofs.Reps.{rep_inside}
-use Rattle.worst.specs.Items.{blank, place_sight, Told, told_plan, Fit, StandFor, Entries}
-use Rattle.worst.specs.Worth.{room, mass, worth, branch, Choice, One, Each, AllAt, There}
+use Rattle.worst.specs.Items.{blank, place_sight, Told, told_plan, StandFor, Entries}
+use Rattle.worst.specs.Worth.{mass, worth, branch, Choice, Each, AllAt, There}
 use Rattle.worst.specs.Rows.{Rows, SomeRows, SomeGroup}
 use Rattle.worst.specs.Group.{entry_at, sames, rest_of_row, Groupable, Grouped}
 use Rattle.worst.specs.declared.Entry.{Entry}

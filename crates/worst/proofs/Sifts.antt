@@ -1,5 +1,5 @@
 -- The loop that puts a row together by sight.
-use Rattle.std.proofs.Common.{◌≡◌, ℕ, zero, suc, ◌+◌, ◌-◌, ◌*◌, ◌^◌, ◌<◌, ◌≤◌, Bool, true, false, eqb, List, [], ◌∷◌, ◌++◌, length, get_or, take, drop, set, sym, refl, ap, ◌∙◌, subst, append-nil, add-one, arith, length-append, length-drop, length-set}
+use Rattle.std.proofs.Common.{◌≡◌, ℕ, suc, ◌+◌, ◌-◌, ◌<◌, ◌≤◌, true, false, List, [], ◌∷◌, ◌++◌, length, get_or, take, drop, set, sym, refl, ap, ◌∙◌, append-nil, arith, length-append, length-drop}
 use lib.Seq.{paste}
 use Rattle.std.proofs.lemmas.List.{get_or-set_other, take_more, take_more_set, take-set-le, drop-set-add, drop-set-lt, length-take-le, take-append-drop, take-take}
 use Rattle.std.proofs.lemmas.List.Edits.{take-paste}

@@ -1,14 +1,14 @@
 -- The loop that spreads out the trees after a choice.
-use Rattle.std.proofs.Common.{◌≡◌, ℕ, zero, suc, ◌+◌, ◌-◌, ◌*◌, ◌^◌, ◌<◌, ◌≤◌, List, [], ◌∷◌, ◌++◌, length, get_or, take, drop, sym, refl, ap, ◌∙◌, subst, append_assoc, append-nil, mul-le-mul_left, arith, length-append}
+use Rattle.std.proofs.Common.{◌≡◌, ℕ, zero, suc, ◌+◌, ◌*◌, ◌^◌, ◌<◌, ◌≤◌, List, [], ◌∷◌, ◌++◌, length, get_or, take, drop, sym, refl, ap, ◌∙◌, subst, append_assoc, append-nil, mul-le-mul_left, arith, length-append}
 use Rattle.std.proofs.lemmas.List.{get_or-take, take_more, get_or_append_left, length-take-le, take-append-drop, take_all}
 use Rattle.cards.specs.Game.{Tree, over, deal, ours, theirs, Trees, Plan, many}
 use Rattle.cards.specs.Floor.{Item, nth, next, after}
 use Rattle.cards.specs.Reckon.{places, places_all, item, sure, open', sure_of, open_of, sight_number}
 use Rattle.plans.specs.declared.Row.{Row}
-use Rattle.tree.specs.Rep.{Rep, Reps, node_at}
+use Rattle.tree.specs.Rep.{Rep, Reps}
 use Rattle.tree.specs.declared.Node.{Node}
 use Rattle.tree.proofs.Reps.{rep_inside}
-use Rattle.worst.specs.Items.{firsts, parts, blank, Told, told_plan, Fit, Fits, StandFor, Entries, SomeKid}
+use Rattle.worst.specs.Items.{firsts, parts, blank, Told, told_plan, Fit, StandFor, Entries, SomeKid}
 use Rattle.worst.specs.Spread.{Ready, SomeReady, Spread}
 use Rattle.worst.specs.Worth.{room, mass, Choice, One, Each, There}
 use Rattle.worst.specs.Rows.{Rows, SomeKth, Gathered}
@@ -16,7 +16,7 @@ use Rattle.worst.specs.declared.Entry.{Entry}
 use Rattle.worst.specs.declared.Grown.{Grown}
 use Rattle.worst.proofs.Lay.{rep_parts, reps_nth}
 use Rattle.worst.proofs.Sums.{room-++, length_room, fits_nth, entries_append, entries_length}
-use Rattle.worst.proofs.Worths.{FitAll, after_fit, after_room, open_of_room, sure_of_mass, mass_after}
+use Rattle.worst.proofs.Worths.{after_fit, after_room, open_of_room, sure_of_mass, mass_after}
 
 abbrev pub item0 : Item
 item0 = item 0 0 (over 0)

@@ -1,12 +1,12 @@
 -- What trees that are spread out come to: sums, places, and what they count.
-use Rattle.std.proofs.Common.{◌≡◌, ℕ, zero, suc, ◌+◌, ◌-◌, ◌*◌, ◌^◌, ◌<◌, ◌≤◌, List, [], ◌∷◌, ◌++◌, length, get_or, sym, refl, ap, ◌∙◌, subst, append_assoc, append-nil, mul-le-mul_right, mul_assoc, mul_comm, add-mul, mul-le-mul_left, mul-add, mul_left_comm, arith, length-append}
+use Rattle.std.proofs.Common.{◌≡◌, ℕ, zero, suc, ◌+◌, ◌*◌, ◌^◌, ◌<◌, ◌≤◌, List, [], ◌∷◌, ◌++◌, length, get_or, sym, refl, ap, ◌∙◌, append_assoc, append-nil, mul-le-mul_right, mul_assoc, add-mul, mul-add, mul_left_comm, arith}
 use native.Mathlib.Nat.{pow-succ'}
 use Rattle.cards.specs.Game.{Tree, over, deal, ours, theirs, Trees, none, more, many, Plan, total}
 use Rattle.cards.specs.Floor.{Item, nth}
-use Rattle.cards.specs.Reckon.{places, places_all, item, sure, sure_all, open', open_all}
+use Rattle.cards.specs.Reckon.{places, places_all, sure, sure_all, open', open_all}
 use Rattle.cards.proofs.AtHand.{size_of, size_append, places_pos, tree_size, trees_size}
 use Rattle.tree.specs.declared.Node.{Node}
-use Rattle.worst.specs.Items.{firsts, Fit, Fits, Entries, StandFor}
+use Rattle.worst.specs.Items.{firsts, Fit, Fits, Entries}
 use Rattle.worst.specs.Worth.{room, mass}
 use Rattle.worst.specs.declared.Entry.{Entry}
 

@@ -1,16 +1,16 @@
 -- The whole tree.
-use Rattle.std.proofs.Common.{◌≡◌, ℕ, zero, suc, ◌+◌, ◌-◌, ◌*◌, ◌^◌, ◌<◌, ◌≤◌, List, [], ◌∷◌, ◌++◌, length, take, sym, refl, ap, ◌∙◌, subst, append-nil, add-zero, mul_comm, le-mul_of_pos_right, arith}
-use Rattle.cards.specs.Game.{Tree, over, deal, ours, theirs, Trees, none, more, Plan}
+use Rattle.std.proofs.Common.{◌≡◌, ℕ, ◌+◌, ◌*◌, ◌^◌, ◌<◌, ◌≤◌, List, [], ◌∷◌, ◌++◌, length, ap, append-nil, mul_comm, le-mul_of_pos_right, arith}
+use Rattle.cards.specs.Game.{Tree, Trees, Plan}
 use Rattle.cards.specs.Floor.{Item}
 use Rattle.cards.specs.Promise.{Well, well_over, well_deal, well_ours, well_theirs, Wells, wells_none, wells_more, AtMost, most_over, most_deal, most_ours, most_theirs, AllMost, most_none, most_more}
-use Rattle.cards.specs.Reckon.{places, item, sure, open', worst}
+use Rattle.cards.specs.Reckon.{item, sure, open', worst}
 use Rattle.plans.specs.Plan.{plan_of}
 use Rattle.plans.specs.declared.Row.{Row}
 use Rattle.tree.specs.declared.Node.{Node}
 use Rattle.worst.specs.Items.{Told, told_plan, Bounds, Powers, Fit, Fits}
-use Rattle.worst.specs.Spread.{Ready, SomeReady, Spread}
-use Rattle.worst.specs.Worth.{room, mass, worth}
-use Rattle.worst.specs.Rows.{Rows, SomeRows}
+use Rattle.worst.specs.Spread.{Ready, Spread}
+use Rattle.worst.specs.Worth.{worth}
+use Rattle.worst.specs.Rows.{Rows}
 use Rattle.worst.specs.Whole.{Whole, SomeWhole}
 use Rattle.worst.specs.declared.Entry.{Entry}
 use Rattle.worst.specs.declared.Grown.{Grown}

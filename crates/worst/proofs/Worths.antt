@@ -1,12 +1,12 @@
 -- What the pure reckoning comes to, whatever the number of steps: enough steps give one value.
-use Rattle.std.proofs.Common.{◌≡◌, ℕ, zero, suc, ◌+◌, ◌-◌, ◌*◌, ◌^◌, ◌<◌, ◌≤◌, min, Bool, true, false, eqb, ◌⊎◌, List, [], ◌∷◌, ◌++◌, length, sym, refl, ap, ◌∙◌, subst, inl, inr, append_assoc, append-nil, add-zero, add_assoc, mul-le-mul_left, zero-add, mul-add, arith, length-append}
-use Rattle.std.proofs.lemmas.Bool.{eqb-true, eq-eqb, both_ways}
+use Rattle.std.proofs.Common.{◌≡◌, ℕ, zero, suc, ◌+◌, ◌*◌, ◌^◌, ◌<◌, ◌≤◌, Bool, true, false, eqb, List, [], ◌∷◌, ◌++◌, length, sym, refl, ap, ◌∙◌, subst, add-zero, zero-add, mul-add, arith}
+use Rattle.std.proofs.lemmas.Bool.{eqb-true, eq-eqb}
 use Rattle.cards.specs.Game.{Tree, over, deal, ours, theirs, Trees, none, more, Plan, many, pick}
-use Rattle.cards.specs.Floor.{Item, nth, next, after}
-use Rattle.cards.specs.Reckon.{places, places_all, item, sure, sure_all, open', open_all, sure_of, open_of, is_at, same, others, sight_number, least, last, by_sight, reckon, worst}
+use Rattle.cards.specs.Floor.{Item, next, after}
+use Rattle.cards.specs.Reckon.{places, item, sure, open', open_all, sure_of, open_of, is_at, same, others, sight_number, least, last, by_sight, reckon, worst}
 use Rattle.cards.proofs.AtHand.{least_low, last_low, places_pos, nth_places, open_size}
 use Rattle.worst.specs.Items.{Fit, Fits}
-use Rattle.worst.specs.Worth.{room, mass, worth, Choice, One, Each, AllAt, There}
+use Rattle.worst.specs.Worth.{room, mass, worth, Choice, Each, AllAt, There}
 use Rattle.worst.proofs.Sums.{room_is, length_room, mass-++, fits_nth, sure_mass}
 
 pub is_sight : (i : ℕ) (t : Tree) → Choice t → is_at i t ≡ eqb i (sight_number t)

@@ -1,8 +1,7 @@
 -- What a tree and its reckoning ask of the memory that is lent for them. Assumes nothing: these are definitions.
-use Rattle.std.specs.Prelude.{ℕ, Some, None, Ok, Err, Option, Result, nat_le}
+use Rattle.std.specs.Prelude.{ℕ, Ok, Err, Result, nat_le}
 use Rattle.cards.specs.Game.{pick}
 use Rattle.tree.specs.Built as tree
-use Rattle.tree.specs.declared.Chair.{Chair}
 use Rattle.tree.specs.declared.Sizes.{Sizes}
 use Rattle.tree.specs.declared.Refusal.TheVariants.{NoRoom, NoSightRoom, TooLarge}
 use Rattle.worst.specs.declared.Refusal.{Refusal}

@@ -1,5 +1,5 @@
 -- A row of entries put together by sight. Assumes nothing: these are definitions.
-use Rattle.std.specs.Prelude.{◌≡◌, ℕ, ◌+◌, ◌<◌, ◌≤◌, Bool, true, false, List, [], ◌∷◌, ◌++◌, length, take, ◌==◌, slice_index_or}
+use Rattle.std.specs.Prelude.{◌≡◌, ℕ, ◌+◌, ◌<◌, ◌≤◌, Bool, List, [], ◌∷◌, ◌++◌, length, take, ◌==◌, slice_index_or}
 use Rattle.cards.specs.Game.{pick}
 use Rattle.tree.specs.Rep.{node_at}
 use Rattle.tree.specs.declared.Node.{Node}

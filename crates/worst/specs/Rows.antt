@@ -1,5 +1,5 @@
 -- Rows of entries for which the least is reckoned. Assumes nothing: these are definitions.
-use Rattle.std.specs.Prelude.{◌≡◌, ℕ, zero, suc, ◌+◌, ◌*◌, ◌^◌, ◌<◌, ◌≤◌, List, [], ◌∷◌, ◌++◌, length, take}
+use Rattle.std.specs.Prelude.{◌≡◌, ℕ, ◌+◌, ◌*◌, ◌^◌, ◌<◌, ◌≤◌, List, ◌++◌, length, take}
 use Rattle.cards.specs.Floor.{Item, after}
 use Rattle.cards.specs.Reckon.{sure_of, open_of}
 use Rattle.plans.specs.declared.Row.{Row}

@@ -1,5 +1,5 @@
 -- What spreading a tree out leaves in the work row. Assumes nothing: these are definitions.
-use Rattle.std.specs.Prelude.{◌≡◌, ℕ, zero, suc, ◌+◌, ◌*◌, ◌^◌, ◌<◌, ◌≤◌, List, [], ◌∷◌, ◌++◌, length, take, slice_index, slice_set}
+use Rattle.std.specs.Prelude.{◌≡◌, ℕ, ◌+◌, ◌*◌, ◌^◌, ◌<◌, ◌≤◌, List, ◌++◌, length, take, slice_index, slice_set}
 use Rattle.cards.specs.Game.{Tree}
 use Rattle.cards.specs.Reckon.{places, sure, open'}
 use Rattle.plans.specs.declared.Row.{Row}

@@ -1,6 +1,6 @@
 -- What items come to, and rows of entries for which it is reckoned. Assumes nothing: these are definitions.
-use Rattle.std.specs.Prelude.{◌≡◌, ℕ, zero, suc, ◌+◌, ◌*◌, ◌^◌, ◌<◌, ◌≤◌, List, [], ◌∷◌, ◌++◌, length, take}
-use Rattle.cards.specs.Game.{Tree, over, deal, ours, theirs, Trees, Plan}
+use Rattle.std.specs.Prelude.{◌≡◌, ℕ, ◌+◌, ◌*◌, ◌^◌, ◌<◌, ◌≤◌, List, [], ◌∷◌}
+use Rattle.cards.specs.Game.{Tree, over, deal, ours, theirs, Plan}
 use Rattle.cards.specs.Floor.{Item, after}
 use Rattle.cards.specs.Reckon.{places, reckon, sight_number}
 use Rattle.worst.specs.Items.{Fit}

@@ -1,12 +1,10 @@
-use Rattle.std.proofs.Common.{◌≡◌, ℕ, ◌*◌, ◌^◌, ◌<◌, ◌≤◌, List, length, drop, Ok, vec_items, sym, refl, ap, ◌∙◌, arith}
+use Rattle.std.proofs.Common.{◌≡◌, length, drop, Ok, vec_items, sym, ap, ◌∙◌, arith}
 use Rattle.std.proofs.lemmas.Bool.{eqb-true, eqb-false}
 use Rattle.std.proofs.lemmas.Result.{IfOk-weaker}
 use Rattle.rules.specs.declared.Player.TheVariants.{House, Guest}
 use Rattle.rules.specs.Counts.{word_count}
 use Rattle.plans.specs.Bases.{size_of}
-use Rattle.answers.specs.declared.Kept.{Kept}
 use Rattle.answers.specs.declared.Answer.{Answer}
-use Rattle.answers.specs.declared.Answer.TheVariants.{One}
 use Rattle.answers.specs.Files.{beyond, with_plan, with_opening, sized_rival}
 use Rattle.answers.proofs.Wholes.{whole_at, kept_is, few_sights, words_here, to_plan, read_here, ends_here, goes_on}
 use Rattle.answers.proofs.answer_plans.Goals as goal

@@ -1,15 +1,9 @@
-use Rattle.std.proofs.Common.{◌≡◌, ◌*◌, ◌^◌, ◌<◌, take, drop, Ok, sym, refl, ap, ◌∙◌, arith}
+use Rattle.std.proofs.Common.{Ok, ap, ◌∙◌, arith}
 use Rattle.rules.specs.Read as rules
-use Rattle.rules.specs.declared.Sheet.{Sheet}
 use Rattle.tree.specs.declared.Sizes.{Sizes}
-use Rattle.tree.specs.Built.{sizes_of}
 use Rattle.plans.specs.Numbers.{numbers, front}
 use Rattle.plans.specs.Bases.{size_of}
-use Rattle.worst.specs.Admit.{admitted}
-use Rattle.answers.specs.declared.Opening.{Opening}
-use Rattle.answers.specs.Files.{open_size}
 use Rattle.answers.proofs.Openings.{admitted_fits, to_size, size_small}
-use Rattle.tree.specs.declared.Chair.{Chair}
 use Rattle.answers.proofs.open_file.Goals as goal
 
 pub returns-in-Ok-check_size : goal.returns-in-Ok-check_size

@@ -1,4 +1,4 @@
-use Rattle.std.proofs.Common.{◌≡◌, length, drop, sym, ◌∙◌, arith, length-drop, take_all}
+use Rattle.std.proofs.Common.{length, arith, length-drop, take_all}
 use Rattle.std.proofs.lemmas.List.{drop_all}
 use Rattle.answers.proofs.past.Goals as goal
 

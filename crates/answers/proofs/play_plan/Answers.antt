@@ -1,13 +1,10 @@
-use Rattle.std.proofs.Common.{◌≡◌, ℕ, ◌*◌, ◌<◌, List, [], ◌++◌, length, drop, Ok, Err, vec_items, string_bytes, sym, refl, ap, ◌∙◌, subst, append-nil, arith, rules}
+use Rattle.std.proofs.Common.{◌≡◌, [], length, Ok, Err, vec_items, ap, ◌∙◌, arith, rules}
 use Rattle.std.proofs.lemmas.Result.{IfOk-weaker}
-use Rattle.rules.specs.declared.Player.TheVariants.{House, Guest}
-use Rattle.plans.specs.declared.Row.{Row}
+use Rattle.rules.specs.declared.Player.TheVariants.{House}
 use Rattle.plans.specs.Bytes.{plan_as}
-use Rattle.plans.specs.declared.Refusal.{Refusal}
-use Rattle.answers.specs.Hands.{play_plan, table_of, tree_of, hand_lines}
+use Rattle.answers.specs.Hands.{play_plan}
 use Rattle.answers.specs.Text.{line, refused}
 use Rattle.answers.specs.declared.Refusal.TheVariants.{OfPlan}
-use Rattle.hands.specs.Match.{outcomes_of}
 use Rattle.answers.proofs.Wholes.{laid_at, few_nodes, few_sights, to_plan, read_here}
 use Rattle.answers.proofs.Tables.{printed}
 use Rattle.answers.proofs.play_plan.Goals as goal

@@ -1,4 +1,4 @@
-use Rattle.std.proofs.Common.{◌≡◌, ℕ, ◌*◌, ◌^◌, ◌<◌, ◌≤◌, List, length, Ok, vec_items, Result, sym, refl, ap, ◌∙◌, arith}
+use Rattle.std.proofs.Common.{◌≡◌, ℕ, ◌*◌, ◌^◌, List, length, vec_items, Result, sym, ap, ◌∙◌, arith}
 use Rattle.rules.specs.declared.Player.TheVariants.{House, Guest}
 use Rattle.rules.specs.Play.{purse}
 use Rattle.rules.specs.Counts.{word_count}
@@ -7,10 +7,9 @@ use Rattle.plans.specs.declared.Row.{Row}
 use Rattle.plans.specs.declared.Refusal as P
 use Rattle.plans.specs.Bases.{size_of}
 use Rattle.plans.specs.Bytes.{plan_as}
-use Rattle.bracket.specs.Verdicts.{verdict_of}
 use Rattle.answers.specs.declared.Kept.{Kept}
 use Rattle.answers.specs.declared.Answer.TheVariants.{Both}
-use Rattle.answers.specs.Files.{kept_by, both, with_rival, sized_rival}
+use Rattle.answers.specs.Files.{both, with_rival, sized_rival}
 use Rattle.answers.proofs.Wholes.{rival_whole, kept_is, low_house, low_guest, few_sights, words_there, table_is, rival_small, power_small, some_table}
 use Rattle.answers.proofs.rival.Goals as goal
 

@@ -1,4 +1,4 @@
-use Rattle.std.proofs.Common.{◌≡◌, ◌∙◌}
+use Rattle.std.proofs.Common.{◌∙◌}
 use Rattle.answers.proofs.Tables.{step_lines}
 use Rattle.answers.proofs.write_hands.Goals as goal
 

@@ -1,4 +1,4 @@
-use Rattle.std.proofs.Common.{◌≡◌, List, length, vec_items, sym, ap, ◌∙◌, subst}
+use Rattle.std.proofs.Common.{length, vec_items, sym, ap, ◌∙◌, subst}
 use Rattle.search.specs.Taken.{Taken}
 use Rattle.search.proofs.Steps.{taken_long}
 use Rattle.search.proofs.plan.Goals as goal

@@ -1,4 +1,4 @@
-use Rattle.std.proofs.Common.{◌≡◌, ℕ, ◌+◌, ◌-◌, ◌*◌, ◌<◌, ◌≤◌, length, sym, refl, ap, ◌∙◌, subst, arith, rules}
+use Rattle.std.proofs.Common.{◌+◌, ◌-◌, ◌*◌, ◌<◌, sym, refl, ap, ◌∙◌, subst, arith}
 use Rattle.tree.specs.Compact.{size}
 use Rattle.tree.specs.declared.Hand.{Hand}
 use Rattle.tree.specs.Flat.{Fair}

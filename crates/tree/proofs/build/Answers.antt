@@ -1,6 +1,6 @@
-use Rattle.std.proofs.Common.{◌≡◌, ℕ, length, Ok, Err, sym, refl, ap, ◌∙◌, subst, rules}
+use Rattle.std.proofs.Common.{length, refl, ap, ◌∙◌, subst, rules}
 use Rattle.tree.specs.declared.Sizes.{Sizes}
-use Rattle.tree.specs.Built.{admitted, sizes_of, Measured}
+use Rattle.tree.specs.Built.{admitted, Measured}
 use Rattle.tree.proofs.Builds.{admitted_same, laid}
 use Rattle.tree.proofs.build.Goals as goal
 

@@ -1,9 +1,9 @@
-use Rattle.std.proofs.Common.{◌≡◌, ℕ, ◌+◌, ◌-◌, ◌*◌, ◌<◌, ◌≤◌, sym, refl, ap, ◌∙◌, subst, arith, rules}
+use Rattle.std.proofs.Common.{◌+◌, ◌*◌, sym, ap, subst, arith}
 use Rattle.tree.specs.Compact.{size}
 use Rattle.tree.specs.declared.Hand.{Hand}
-use Rattle.tree.specs.declared.Act.TheVariants.{Check, Bet}
+use Rattle.tree.specs.declared.Act.TheVariants.{Bet}
 use Rattle.tree.specs.Flat.{Fair}
-use Rattle.tree.proofs.Fairs.{fair_less, fair_open}
+use Rattle.tree.proofs.Fairs.{fair_open}
 use Rattle.tree.proofs.Rounds.{carry, bet_is, two_written}
 use Rattle.tree.proofs.checked.Goals as goal
 

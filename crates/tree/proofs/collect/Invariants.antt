@@ -1,4 +1,4 @@
-use Rattle.std.proofs.Common.{◌≡◌, ◌+◌, ◌≤◌, length}
+use Rattle.std.proofs.Common.{◌≤◌, length}
 use Rattle.tree.specs.Slots.{Tabled}
 use Rattle.tree.specs.Flat.{Noted}
 use Rattle.tree.proofs.Sees.{list}

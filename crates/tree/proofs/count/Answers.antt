@@ -1,7 +1,5 @@
-use Rattle.std.proofs.Common.{◌≡◌, ℕ, ◌+◌, ◌<◌, ◌≤◌, length, take, replicate, sym, refl, ap, ◌∙◌, arith, rules}
-use Rattle.rules.specs.declared.Sheet.{Sheet}
-use Rattle.tree.specs.Compact.{Play, each, size, sizes}
-use Rattle.rules.specs.Play.{without}
+use Rattle.std.proofs.Common.{◌≡◌, ◌<◌, take, replicate, ap, ◌∙◌, arith}
+use Rattle.tree.specs.Compact.{each, size, sizes}
 use Rattle.tree.specs.Flat.{second_card, guest_card}
 use Rattle.tree.proofs.Deals.{size_more, size_skip}
 use Rattle.tree.proofs.Decks.{game_is}

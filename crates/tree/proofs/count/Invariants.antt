@@ -1,4 +1,4 @@
-use Rattle.std.proofs.Common.{◌≡◌, ℕ, ◌+◌, ◌*◌, ◌≤◌, length, take}
+use Rattle.std.proofs.Common.{◌≡◌, ◌+◌, ◌*◌, ◌≤◌, take}
 use Rattle.tree.specs.Compact.{each, sizes}
 use Rattle.tree.specs.Flat.{second_card}
 use Rattle.tree.proofs.count.Given as goal

@@ -1,4 +1,4 @@
-use Rattle.std.proofs.Common.{◌≡◌, ◌<◌, ◌≤◌, length, take, sym, refl, ap, ◌∙◌, mul-le-mul, arith, rules}
+use Rattle.std.proofs.Common.{◌≤◌, take, mul-le-mul, arith}
 use Rattle.tree.proofs.Counts.{public_first, plain_first}
 use Rattle.tree.proofs.count_first.Goals as goal
 

@@ -1,6 +1,4 @@
-use Rattle.std.proofs.Common.{◌≡◌, ℕ, ◌+◌, ◌<◌, ◌≤◌, length, take, sym, refl, ap, ◌∙◌, arith, rules}
-use Rattle.rules.specs.declared.Sheet.{Sheet}
-use Rattle.rules.specs.declared.Bets.{Bets}
+use Rattle.std.proofs.Common.{◌≡◌, ℕ, ◌<◌, length, take, ap, ◌∙◌, arith, rules}
 use Rattle.tree.specs.Compact.{Play, each, sizes, first_as, sits}
 use Rattle.rules.specs.Play.{without}
 use Rattle.tree.specs.Flat.{first_size}

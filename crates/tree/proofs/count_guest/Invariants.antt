@@ -1,4 +1,4 @@
-use Rattle.std.proofs.Common.{◌≡◌, ℕ, ◌+◌, ◌*◌, ◌≤◌, length, take}
+use Rattle.std.proofs.Common.{◌≡◌, ℕ, ◌+◌, ◌*◌, ◌≤◌, take}
 use Rattle.tree.specs.Compact.{each, sizes, first_as, sits}
 use Rattle.rules.specs.Play.{without}
 use Rattle.tree.proofs.count_guest.Given as goal

@@ -1,8 +1,6 @@
-use Rattle.std.proofs.Common.{◌≡◌, ℕ, ◌+◌, ◌-◌, ◌*◌, ◌<◌, ◌≤◌, length, get_or, take, sym, refl, ap, ◌∙◌, subst, arith, rules}
+use Rattle.std.proofs.Common.{◌≡◌, ℕ, ◌+◌, ◌<◌, length, take, refl, ap, ◌∙◌, subst, arith, rules}
 use Rattle.tree.specs.Compact.{each}
 use Rattle.rules.specs.Play.{left}
-use Rattle.tree.specs.Flat.{Written}
-use Rattle.tree.specs.Rep.{node}
 use Rattle.cards.specs.Game.{total}
 use Rattle.tree.proofs.Lay.{Rows, rows_none, rows_met, deal_written}
 use Rattle.tree.proofs.Deals.{deal_room, upto_more, upto_skip, cards_more}

@@ -1,4 +1,4 @@
-use Rattle.std.proofs.Common.{◌≡◌, ◌+◌, ◌*◌, ◌≤◌, length, take}
+use Rattle.std.proofs.Common.{◌≡◌, ◌+◌, ◌*◌, ◌≤◌, take}
 use Rattle.tree.specs.Compact.{each}
 use Rattle.rules.specs.Play.{left}
 use Rattle.cards.specs.Game.{total}

@@ -1,5 +1,5 @@
-use Rattle.std.proofs.Common.{◌≡◌, sym, ◌∙◌, arith}
-use Rattle.tree.proofs.Choices.{called_first, called_after, checked_end}
+use Rattle.std.proofs.Common.{sym, ◌∙◌, arith}
+use Rattle.tree.proofs.Choices.{called_after}
 use Rattle.tree.proofs.ended_at.Goals as goal
 
 pub returns-else-back-eq0 : goal.returns-else-back-eq0

@@ -1,4 +1,4 @@
-use Rattle.std.proofs.Common.{◌≡◌, ℕ, ◌⊎◌, length, replicate, sym, refl, ap, ◌∙◌, inl, inr, arith}
+use Rattle.std.proofs.Common.{ℕ, length, replicate, inl, inr, arith}
 use lib.ListN.{length-replicate}
 use Rattle.rules.specs.declared.Player.TheVariants.{House, Guest}
 use Rattle.tree.proofs.Fills.{whole, ready, filled, begun, all_zero}

@@ -1,4 +1,4 @@
-use Rattle.std.proofs.Common.{◌≡◌, refl, ◌∙◌}
+use Rattle.std.proofs.Common.{◌∙◌}
 use Rattle.tree.proofs.Indexes.{noted_begins, tabled_numbered, all_slotted}
 use Rattle.tree.proofs.index.Goals as goal
 

@@ -1,4 +1,4 @@
-use Rattle.std.proofs.Common.{◌≡◌, ◌+◌, ◌<◌, sym, ◌∙◌, arith}
+use Rattle.std.proofs.Common.{sym, ◌∙◌, arith}
 use Rattle.tree.proofs.Choices.{the_bet, a_raise, past_bets, checked_in, checked_out}
 use Rattle.tree.proofs.listed_at.Goals as goal
 

@@ -1,4 +1,4 @@
-use Rattle.std.proofs.Common.{◌≡◌, sym, subst}
+use Rattle.std.proofs.Common.{sym, subst}
 use Rattle.tree.specs.declared.Sizes.{Sizes}
 use Rattle.tree.specs.Built.{Measured}
 use Rattle.tree.proofs.Measures.{sizes_are, measured}

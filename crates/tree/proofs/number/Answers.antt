@@ -1,6 +1,5 @@
-use Rattle.std.proofs.Common.{◌≡◌, ◌<◌, ◌≤◌, length, get_or, sym, refl, ap, ◌∙◌, subst}
+use Rattle.std.proofs.Common.{sym, ap, subst}
 use Rattle.tree.specs.declared.Node.{Node}
-use Rattle.tree.specs.declared.Place.{Place}
 use Rattle.tree.specs.Rep.{node, node_at}
 use Rattle.tree.specs.Slots.{tabled_node, Slotted}
 use Rattle.tree.proofs.Sees.{map_next, map_done, map_here}

@@ -1,8 +1,6 @@
-use Rattle.std.proofs.Common.{◌≡◌, ℕ, ◌+◌, ◌*◌, ◌≤◌, Bool, true, false, sym, refl, ap, ◌∙◌, add-zero, mul-le-mul, arith, rules}
+use Rattle.std.proofs.Common.{◌≡◌, ℕ, ◌+◌, ◌*◌, ◌≤◌, Bool, true, false, sym, ap, ◌∙◌, add-zero, mul-le-mul, arith}
 use Rattle.cards.specs.Game.{pick}
 use Rattle.rules.specs.declared.Sheet.{Sheet}
-use Rattle.rules.specs.declared.Bets.{Bets}
-use Rattle.rules.specs.Sound.{Sound}
 use Rattle.rules.specs.Play.{purse}
 use Rattle.tree.proofs.purse.Goals as goal
 

@@ -1,4 +1,4 @@
-use Rattle.std.proofs.Common.{◌≡◌, ◌<◌, ◌≤◌, length, take, sym, refl, ap, ◌∙◌, arith, rules}
+use Rattle.std.proofs.Common.{◌≡◌, ◌<◌, length, take, ap, ◌∙◌, arith, rules}
 use Rattle.rules.specs.Play.{left}
 use Rattle.tree.proofs.Deals.{left_more, left_skip}
 use Rattle.tree.proofs.ranks_left.Goals as goal

@@ -1,4 +1,4 @@
-use Rattle.std.proofs.Common.{◌≡◌, sym, refl, ap, ◌∙◌, arith, rules}
+use Rattle.std.proofs.Common.{ap, arith}
 use Rattle.tree.specs.Compact.{size}
 use Rattle.tree.proofs.Rounds.{carry}
 use Rattle.tree.proofs.Decks.{game_is}

@@ -1,6 +1,6 @@
-use Rattle.std.proofs.Common.{◌≡◌, sym, refl, ap, ◌∙◌, subst, arith}
+use Rattle.std.proofs.Common.{refl, ◌∙◌, arith}
 use borrow.Rule.Slice.PartMut.{take_put, same_len_mid}
-use Rattle.worst.proofs.Branches.{part_falls, part_no_longer, first_tree, kids_none, kth, kth_rows, kth_worth, branch_small, gathered_front, kids_more, kids_all, rows_moved}
+use Rattle.worst.proofs.Branches.{part_falls, part_no_longer, first_tree, kids_none, kth, kth_rows, kth_worth, branch_small, kids_more, kids_all}
 use Rattle.worst.proofs.Rounds.{round_none, round_inside, round_groupable, round_parted, round_group, round_more, round_small, round_all}
 use Rattle.worst.proofs.+least_of_reckon.Goals as goal
 use Rattle.worst.proofs.+least_of_reckon.Goals.{least_of-then-value-best, least_of-else-value-best}

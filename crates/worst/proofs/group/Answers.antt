@@ -1,4 +1,4 @@
-use Rattle.std.proofs.Common.{◌≡◌, sym, refl, ap, ◌∙◌, subst, arith}
+use Rattle.std.proofs.Common.{◌≡◌, sym, ◌∙◌, arith}
 use Rattle.worst.proofs.Sifts.{sift_none, sift_inside, same_room, sift_same, sift_other, moved_fits, sift_all}
 use Rattle.worst.proofs.group.Goals as goal
 use Rattle.worst.proofs.group.Goals.{then-sight_of-sight, else-sight_of-sight}

@@ -1,4 +1,3 @@
-use Rattle.std.proofs.Common.{arith}
 use Rattle.worst.proofs.settle.Goals as goal
 
 pub bounds-nodes-e : goal.bounds-nodes-e

@@ -1,8 +1,7 @@
-use Rattle.std.proofs.Common.{◌≡◌, ◌<◌, [], length, get_or, sym, ap, subst}
+use Rattle.std.proofs.Common.{◌<◌, [], length, get_or, ap, subst}
 use Rattle.std.proofs.lemmas.List.{get_or_default}
 use Rattle.plans.specs.declared.Row.{Row}
 use Rattle.plans.specs.Plan.{no_row}
-use Rattle.worst.specs.Items.{Weighable}
 use Rattle.worst.proofs.weight.Goals as goal
 
 pub bounds-weights-k : goal.bounds-weights-k

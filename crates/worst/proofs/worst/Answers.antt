@@ -1,4 +1,4 @@
-use Rattle.std.proofs.Common.{◌≡◌, length, replicate, sym, refl, ap, ◌∙◌, subst, arith}
+use Rattle.std.proofs.Common.{length, replicate, ap, ◌∙◌, arith}
 use Rattle.worst.specs.Items.{blank}
 use Rattle.worst.proofs.Wholes.{told, whole_power, whole_ready, whole_rows, whole_value, whole_small}
 use Rattle.worst.proofs.worst.Goals as goal

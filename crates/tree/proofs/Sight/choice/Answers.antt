@@ -1,4 +1,4 @@
-use Rattle.std.proofs.Common.{◌≡◌, sym, ap, ◌∙◌, arith}
+use Rattle.std.proofs.Common.{sym, ap, ◌∙◌, arith}
 use Rattle.tree.specs.Told.{nth, choices_in, ended}
 use Rattle.tree.proofs.Choices.{in_second, in_first}
 use Rattle.tree.proofs.Sight.choice.Goals as goal
