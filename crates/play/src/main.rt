@@ -1,8 +1,7 @@
-// The program `play`: reads a file and prints a line for each of its hands, the text of `answers::play`.
+// The playing program: a file in, a line for each of its hands out. Everything that matters is in crate `answers`.
 
 #![tactic(auto)]
 
-use anyhow::anyhow;
 use std::alloc::Global;
 use std::io::Read;
 use std::{env, fs, io};
@@ -14,11 +13,9 @@ prints for each hand what the house and the guest have at its end.
 
 FILE   nine bytes of rule sheet; four bytes of m, low byte first; a weight of four bytes, low byte first, for each
        choice at each sight of the house; then hand after hand: a byte with the number of the guest's choices, the
-       choices, a byte each, a byte with the number of words, the words, four bytes each, low byte first. A word of
-       chance is a number below m.
+       choices, a byte each, a byte with the number of words, the words, four bytes each, low byte first.
 
-A tree of more than 4,096 places is refused with 13 at 0. A file that is refused prints `refused NUMBER at PLACE`, and
-so does a hand; docs/RULES.md lists the numbers.
+A file that is turned away prints `refused NUMBER at PLACE`, and so does a hand; docs/RULES.md lists the numbers.
 ";
 
 // The bytes of the named file, or of standard input.
@@ -33,19 +30,16 @@ fn input(rt: &HostRuntime, heap: Global, path: Option<String>) -> io::Result<Vec
     }
 }
 
-fn main(rt: HostRuntime) -> anyhow::Result<()> {
+fn main(rt: HostRuntime) -> io::Result<()> {
     let heap = rt.alloc();
     let mut args = env::args(&rt)?;
     let _program = args.next();
     let path = args.next();
     if let Some(word) = &path {
         if word.as_str() == "--help" {
-            return Ok(rt.print(HELP)?);
+            return rt.print(HELP);
         }
     }
-    let Ok(bytes) = input(&rt, heap, path) else {
-        rt.eprint("play: the file cannot be read; see play --help\n")?;
-        return Err(anyhow!("no file"));
-    };
-    Ok(rt.print(answers::play(heap, bytes.as_slice())?)?)
+    let bytes = input(&rt, heap, path)?;
+    rt.print(answers::play(heap, bytes.as_slice())?)
 }

@@ -1,15 +1,16 @@
-// The program `propose`: reads a rule sheet and m, and writes the bytes of a plan. That the plan is taken, or why there is none, is the
-// promise of `answers::propose`.
+// The program that proposes plans: a rule sheet and m in, the bytes of a plan out. What is proved of the plan is in crate `search`.
 
 #![tactic(auto)]
 
-use answers::NoPlan;
+ghost use Rattle.rules.specs.Sound.{Sound};
+
 use anyhow::anyhow;
-use rules::Player;
+use rules::{Ends, Player, Sheet};
 use search::Progress;
 use std::alloc::{AllocError, Global};
 use std::io::{Read, Write};
 use std::{env, fs, io};
+use tree::{History, Line, Node, Place, Sight, Sizes};
 
 const HELP: &str = "usage: propose house|guest|both ROUNDS [FILE]
 
@@ -18,22 +19,52 @@ How far it is, it says on standard error.
 
 house    a plan for the house.
 guest    a plan for the guest, as the house of the turned tree.
-both     the rule sheet, m and both plans: a file for `reckon`, which has memory for 4,096 places, or for `times`.
-ROUNDS   at most so many rounds of learning; below 10 the weights of a sight are equal; 1000 is a good number.
+both     the rule sheet, m and both plans: a file for `reckon`.
+ROUNDS   how many rounds of learning there may be; 1000 is a good number.
 FILE     nine bytes of rule sheet and four bytes of m, low byte first. What follows them is not looked at.
 
-A tree of more than 65,536 places is refused with 13 at 0. A file that is refused prints `refused NUMBER at PLACE` to
-standard error; docs/RULES.md lists the numbers.
+A file that is turned away prints `refused NUMBER at PLACE` to standard error; docs/RULES.md lists the numbers.
 ";
 
-// There is memory for every tree that can be built.
-const ROOM: u32 = 65536;
+// There is memory for so many places, and for so many sights of each player.
+const ROOM: usize = 65536;
 
 // What is written: the plan of one player, or a file for `reckon` with both.
 #[derive(Clone, Copy)]
 enum Order {
     Plan(Player),
     File,
+}
+
+// Why there is no plan: a refusal, by its number and place, or no memory.
+#[derive(Clone, Copy)]
+enum Fault {
+    Refused(u8, usize),
+    Memory,
+}
+
+impl From<AllocError> for Fault {
+    fn from(_e: AllocError) -> Fault {
+        Fault::Memory
+    }
+}
+
+impl From<rules::Refusal> for Fault {
+    fn from(e: rules::Refusal) -> Fault {
+        Fault::Refused(e.number(), e.place())
+    }
+}
+
+impl From<tree::Refusal> for Fault {
+    fn from(e: tree::Refusal) -> Fault {
+        Fault::Refused(e.number(), e.place())
+    }
+}
+
+impl From<plans::Refusal> for Fault {
+    fn from(e: plans::Refusal) -> Fault {
+        Fault::Refused(e.number(), e.place())
+    }
 }
 
 // Progress as lines on standard error. One that cannot be written is left out.
@@ -48,6 +79,101 @@ impl Progress for Lines<'_> {
     }
 }
 
+fn blank_node() -> Node {
+    Node {
+        place: Place::Over(Ends { house: 0, guest: 0 }),
+        share: 0,
+        size: 0,
+    }
+}
+
+fn blank_sight() -> Sight {
+    let line = Line { checks: 0, bets: 0 };
+    Sight {
+        own: 0,
+        history: History {
+            first: line,
+            public: None,
+            second: line,
+        },
+    }
+}
+
+// The first so many.
+fn sights_of(sights: &[Sight], n: u32) -> &[Sight] {
+    let n = n as usize;
+    if n <= sights.len() {
+        &sights[0..n]
+    } else {
+        sights
+    }
+}
+
+// The bytes of the rule sheet.
+fn front(bytes: &[u8]) -> &[u8] {
+    if bytes.len() < 9 { bytes } else { &bytes[0..9] }
+}
+
+// What follows the rule sheet.
+fn past(bytes: &[u8]) -> &[u8] {
+    if bytes.len() < 9 { &[] } else { &bytes[9..] }
+}
+
+// The number m after the rule sheet, checked.
+fn base(sheet: Sheet, sizes: Sizes, chair: Player, bytes: &[u8]) -> Result<u32, Fault>
+    requires { Sound sheet }
+{
+    let Some(m) = plans::read_base(bytes) else {
+        return Err(Fault::from(plans::Refusal::Base));
+    };
+    let m = plans::check_base(sheet, m)?;
+    let words = match chair {
+        Player::House => sizes.house.words,
+        Player::Guest => sizes.guest.words,
+    };
+    plans::check_size(sizes.table, m, words)?;
+    Ok(m)
+}
+
+// The bytes of a plan for the player in this chair.
+fn plan(
+    rt: &HostRuntime,
+    heap: Global,
+    chair: Player,
+    rounds: u32,
+    bytes: &[u8],
+) -> Result<Vec<u8>, Fault> {
+    let sheet = rules::read(front(bytes))?;
+    let mut nodes = vec![in heap; blank_node(); ROOM]?;
+    let mut house = vec![in heap; blank_sight(); ROOM]?;
+    let mut guest = vec![in heap; blank_sight(); ROOM]?;
+    let sizes = tree::build(
+        sheet,
+        nodes.as_mut_slice(),
+        house.as_mut_slice(),
+        guest.as_mut_slice(),
+    )?;
+    let m = base(sheet, sizes, chair, past(bytes))?;
+    let house = sights_of(house.as_slice(), sizes.house.sights);
+    let guest = sights_of(guest.as_slice(), sizes.guest.sights);
+    let (own, others) = match chair {
+        Player::House => (house, guest),
+        Player::Guest => (guest, house),
+    };
+    let lines = Lines { rt };
+    Ok(search::plan(
+        heap,
+        &lines,
+        nodes.as_slice(),
+        own,
+        others,
+        sheet.raises,
+        chair,
+        m,
+        rounds,
+    )?)
+}
+
 // The bytes of the rule sheet and of m.
 fn opening(bytes: &[u8]) -> &[u8] {
     if bytes.len() < 13 {
@@ -57,15 +183,6 @@ fn opening(bytes: &[u8]) -> &[u8] {
     }
 }
 
-// A file of these parts.
-fn joined(heap: Global, opening: &[u8], house: &[u8], guest: &[u8]) -> Result<Vec<u8>, AllocError> {
-    let mut file = Vec::new(heap);
-    file.extend_from_slice(opening)?;
-    file.extend_from_slice(house)?;
-    file.extend_from_slice(guest)?;
-    Ok(file)
-}
-
 // The bytes that are asked for.
 fn ordered(
     rt: &HostRuntime,
@@ -73,17 +190,17 @@ fn ordered(
     order: Order,
     rounds: u32,
     bytes: &[u8],
-) -> Result<Vec<u8>, NoPlan> {
-    let lines = Lines { rt };
+) -> Result<Vec<u8>, Fault> {
     match order {
-        Order::Plan(chair) => answers::propose(heap, &lines, ROOM, chair, rounds, bytes),
+        Order::Plan(chair) => plan(rt, heap, chair, rounds, bytes),
         Order::File => {
-            let house = answers::propose(heap, &lines, ROOM, Player::House, rounds, bytes)?;
-            let guest = answers::propose(heap, &lines, ROOM, Player::Guest, rounds, bytes)?;
-            match joined(heap, opening(bytes), house.as_slice(), guest.as_slice()) {
-                Ok(file) => Ok(file),
-                Err(_) => Err(NoPlan::Memory),
-            }
+            let house = plan(rt, heap, Player::House, rounds, bytes)?;
+            let guest = plan(rt, heap, Player::Guest, rounds, bytes)?;
+            let mut file = Vec::new(heap);
+            file.extend_from_slice(opening(bytes))?;
+            file.extend_from_slice(house.as_slice())?;
+            file.extend_from_slice(guest.as_slice())?;
+            Ok(file)
         }
     }
 }
@@ -118,17 +235,17 @@ fn answer(
     path: Option<String>,
 ) -> anyhow::Result<()> {
     let Ok(bytes) = input(rt, heap, path) else {
-        rt.eprint("propose: the file cannot be read; see propose --help\n")?;
+        eprintln!(rt; "the file cannot be read")?;
         return Err(anyhow!("no file"));
     };
     match ordered(rt, heap, order, rounds, bytes.as_slice()) {
         Ok(out) => Ok(rt.stdout().write_all(out.as_slice())?),
-        Err(NoPlan::Refused(e)) => {
-            eprintln!(rt; "{e}")?;
+        Err(Fault::Refused(number, place)) => {
+            eprintln!(rt; "refused {number} at {place}")?;
             Err(anyhow!("refused"))
         }
-        Err(NoPlan::Memory) => {
-            rt.eprint("propose: memory is wanting\n")?;
+        Err(Fault::Memory) => {
+            eprintln!(rt; "no memory")?;
             Err(anyhow!("no memory"))
         }
     }
