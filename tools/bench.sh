@@ -7,12 +7,12 @@ set -eu
 root=$(cd "$(dirname "$0")/.." && pwd)
 runs=${1:-2000}
 (cd "$root/bench" && cargo build --release --quiet)
-(cd "$root" && rt check times >/dev/null)
+(cd "$root/crates/times" && rt run -- 1 data/small >/dev/null 2>&1)
 
 work=$(mktemp -d)
 trap 'rm -rf "$work"' EXIT
 "$root/bench/target/release/bench_plain" >"$work/plain"
-(cd "$root/crates/times/data" && "$root/target/bin/times" "$runs" small six-cards thirteen eight 2>"$work/proved" >/dev/null)
+(cd "$root/crates/times/data" && "$root/crates/times/out/times" "$runs" small six-cards thirteen eight 2>"$work/proved" >/dev/null)
 
 awk '
     FILENAME == ARGV[1] { build[$1] = $2; reckon[$1] = $3; next }

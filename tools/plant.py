@@ -8,10 +8,10 @@ one of its type, a write or a call dropped, two arguments of one type exchanged,
 struct exchanged, a condition negated, true for false, None for Some, a range that takes in its end. Contracts, types
 and comments are left as they are.
 
-A function's proof rests on its own body and on the contracts of what it calls, and `rt dev` reports each function by
+A function's proof rests on its own body and on the contracts of what it calls, and `rt check` reports each function by
 itself. So a run has one bug in each function; functions that call each other count as one, and a bug in a constant of
-the crate has a run of its own. The runs are made in a copy of this repository, which has to be checked (rt check CRATE
-first).
+the crate has a run of its own. The runs are made in a copy of this repository, which has to be checked (rt check in the
+crate's folder first).
 
 A bug is refused where its own function has an error in its proof or a need that is not proved; that the function calls
 one that is not proved does not count. The other bugs of the run are tried again without those: together, and where the
@@ -26,7 +26,6 @@ is a line for each survivor, and `N planted, M refused, K survived, P no program
 import argparse
 import collections
 import itertools
-import os
 import pathlib
 import re
 import shutil
@@ -56,19 +55,24 @@ Body = collections.namedtuple("Body", "unit function first last")
 
 def bodies(text, proofs):
     """The functions of a source, each with the number of the first line of its body and of the line after its last."""
-    units = {name: folder.name for folder in proofs.glob("+*") for name in folder.name.split("+")[1:]}
+    units = {folder.name[1:]: folder.name for folder in proofs.glob("+*")}
     lines = text.splitlines()
     owner = ""
     for number, line in enumerate(lines):
-        if found := re.match(r"(?:pub )?(?:impl|trait)\b(?:<[^>]*>)? (.*?)(?:<.*>)? \{$", line):
-            owner = found[1].split(" as ")[-1] + "::"
+        if found := re.match(r"(?:pub )?(?:impl|trait)\b(?:<[^>]*>)? (.*) \{$", line):
+            # an impl of a trait is reported as the type and the trait in one word
+            kinds = [re.sub(r"<.*>|.*::", "", kind) for kind in found[1].split(" for ")]
+            owner = "".join(reversed(kinds)) + "::"
         if found := re.match(r"( *)(?:pub )?fn (\w+)", line):
             indent, name = found[1], (owner if found[1] else "") + found[2]
             end = rf"({indent}|{indent[4:]})\}}"
             last = next(i for i in range(number, len(lines)) if re.match(end, lines[i]))
-            heads = [number] if line.endswith("{") else [i for i in range(number, last) if lines[i] == indent + "{"]
+            opens = rf"{indent}(\).*)?\{{$"
+            heads = [number] if line.endswith("{") else [i for i in range(number, last) if re.match(opens, lines[i])]
+            # functions that call each other name their cycle
+            cycle = re.match(r" *#\[cycle\((\w+)\)\]$", lines[number - 1])
             if heads:
-                yield Body(units.get(name, name), name, heads[0] + 1, last)
+                yield Body(units.get(cycle[1] if cycle else name, name), name, heads[0] + 1, last)
 
 
 def neighbours(texts):
@@ -188,6 +192,9 @@ def exchanged(lines, number, after, types):
     line = lines[number]
     for found, other in [*signs(line), *names(line, after), *swaps(line, types)]:
         yield number, line[: found.start()] + other + line[found.end():]
+    if all(re.match(r" {8,}[&*]?[\w.]+( as \w+)?,$", text) for text in lines[number: number + 2]):
+        # two arguments that stand below each other; the compiler says where their types differ
+        yield number + 1, lines[number + 1] + "\n" + line
     last = dropped(lines, number)
     if last is not None:
         yield last, re.match(" *", line)[0] + "{}"
@@ -238,11 +245,12 @@ class Trials:
         """What the checker writes with these bugs in place."""
         lines = self.good.splitlines()
         for bug in batch:
-            lines[bug.first: bug.last + 1] = [bug.new] + [""] * (bug.last - bug.first)
+            new = bug.new.split("\n")
+            lines[bug.first: bug.last + 1] = new + [""] * (bug.last + 1 - bug.first - len(new))
         self.source.write_text("\n".join(lines) + "\n")
-        settings = {"cwd": self.root, "env": {**os.environ, "RT_JOBS": "1"}, "capture_output": True, "text": True}
+        settings = {"cwd": self.root / "crates" / self.crate, "capture_output": True, "text": True}
         try:
-            done = subprocess.run(["rt", "dev", self.crate], timeout=1800, **settings)
+            done = subprocess.run(["rt", "check"], timeout=1800, **settings)
         except subprocess.TimeoutExpired:
             return ""
         out = done.stdout + done.stderr
@@ -253,11 +261,9 @@ class Trials:
 
     def troubled(self, out):
         """The units with an error in their own proof or a need of their own that is not proved."""
-        found = set(re.findall(rf"/crates/{self.crate}/proofs/(\S+)/\w+\.antt:\d+:\d+: error", out))
+        found = set(re.findall(r"^\./proofs/(\S+)/\w+\.antt:\d+:\d+: error", out, re.M))
         found = {unit.replace("/", "::") for unit in found}
-        for line in re.findall(r"/src/\w+\.rt:(\d+):\d+: it is not proved", out):
-            found |= {unit for unit in [self.unit_at(int(line))] if unit}
-        for function in re.findall(rf"^fn {self.crate}::(\S+): no proof: expected answers", out, re.M):
+        for function in re.findall(rf"^fn {self.crate}::(\S+): (?:not proved|no proof: expected answers)", out, re.M):
             found |= {body.unit for body in self.bodies if body.function == function}
         return found
 

@@ -3,7 +3,7 @@
 
     tools/propose.py [--rounds 200]
 
-Needs target/bin/propose and target/bin/reckon (rt check propose && rt check reckon). A sheet fails where either
+Needs crates/propose/out/propose and crates/reckon/out/reckon (`rt run` in the crate's folder makes them). A sheet fails where either
 program ends with another status than 0, or where `reckon` does not take the two plans: it prints two worsts, or it says
 which plan it turned away. The gap is what both best opponents together gain, in tokens a hand. The last line is
 `N passed, M failed`.
@@ -18,7 +18,7 @@ import sys
 import tempfile
 import time
 
-BIN = pathlib.Path(__file__).resolve().parent.parent / "target" / "bin"
+CRATES = pathlib.Path(__file__).resolve().parent.parent / "crates"
 
 # Rule sheets with an m that each of their deals and both chairs' counts of hands admit.
 GAMES = [
@@ -39,7 +39,7 @@ GAMES = [
 
 def propose(chair, rounds, head):
     start = time.time()
-    done = subprocess.run([BIN / "propose", chair, str(rounds)], input=head, capture_output=True, timeout=600)
+    done = subprocess.run([CRATES / "propose/out/propose", chair, str(rounds)], input=head, capture_output=True, timeout=600)
     return done, time.time() - start
 
 
@@ -55,7 +55,7 @@ def trial(sheet, m, rounds):
     with tempfile.NamedTemporaryFile() as file:
         file.write(whole)
         file.flush()
-        done = subprocess.run([BIN / "reckon", file.name], capture_output=True, timeout=600)
+        done = subprocess.run([CRATES / "reckon/out/reckon", file.name], capture_output=True, timeout=600)
     lines = done.stdout.decode().splitlines()
     worsts = [line.split() for line in lines if line.startswith("worst ")]
     if done.returncode != 0 or len(worsts) != 2:
