@@ -20,7 +20,7 @@ program where the compiler turns it away: the compiler's line says which bug tha
 it. It has no answer where the check takes over half an hour or cannot tell.
 
 --list prints the bugs and tries none; --part takes each N-th one; --log keeps what the checker wrote. At the end there
-is a line for each survivor, and `N planted, M refused, K survived, P no program`.
+is a line for each survivor, and `CRATE: N planted, M refused, K survived, P no program`.
 """
 
 import argparse

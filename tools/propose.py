@@ -3,7 +3,7 @@
 
     tools/propose.py [--rounds 200]
 
-Needs crates/propose/out/propose and crates/reckon/out/reckon (`rt run` in the crate's folder makes them). A sheet fails where either
+Needs crates/propose/out/propose and crates/reckon/out/reckon (`rt run -- --help` in the crate's folder makes them). A sheet fails where either
 program ends with another status than 0, or where `reckon` does not take the two plans: it prints two worsts, or it says
 which plan it turned away. The gap is what both best opponents together gain, in tokens a hand. The last line is
 `N passed, M failed`.

@@ -1,7 +1,8 @@
 #!/usr/bin/env python3
 """Brings the repository's own names in specs, proofs and contracts to the kit's spelling.
 
-usage: python3 tools/respell.py [--dry]      at the top of the repository, after the kit's port.py
+usage: python3 tools/respell.py [--dry | --force]      at the top of the repository, after the kit's port.py
+       --dry writes nothing; --force writes also where names fall together
 
 Types are in upper camel case (At-sight becomes AtSight); definitions, lemmas, constructors, fields and variables are in
 snake case (places-all becomes places_all, nodeAt becomes node_at). The names of goals and of their steps, and those of the
@@ -136,6 +137,9 @@ def turned(text, names, path):
 
 
 def main(argv):
+    if set(argv) - {"--dry", "--force"}:
+        print(__doc__)
+        return 2
     antt = sorted(p for p in glob.glob("crates/*/specs/**/*.antt", recursive=True) + glob.glob("crates/*/proofs/**/*.antt", recursive=True))
     rust = sorted(glob.glob("crates/*/src/**/*.rt", recursive=True))
     where = defined(antt)

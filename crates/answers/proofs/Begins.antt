@@ -21,7 +21,7 @@ use Rattle.worst.specs.declared.Refusal as W
 use Rattle.worst.specs.Admit.{admitted}
 use Rattle.answers.specs.declared.Opening.{Opening}
 use Rattle.answers.specs.Files.{open_size, open_base, open_number, open_memory, open_sheet_in, opened_in}
-use Rattle.answers.specs.Ready.{Ready}
+use Rattle.answers.specs.Ready.{Begun}
 use Rattle.answers.proofs.Openings.{Fits, admitted_fits, plan_held, size_small}
 
 held : (b : Bool) (e : R.Refusal) (r : Result Sheet R.Refusal) (s : Sheet) → rules.holds b e r ≡ Ok s → (b ≡ true) × (r ≡ Ok s)
@@ -113,26 +113,26 @@ base_based s n m h e =
     subst (Based s) (ok_same n m h3.1) d
 
 -- a file that begins so is ready
-pub opened_ready : (room : ℕ) (bytes : List ℕ) (o : Opening) → room < 2 ^ 32 → opened_in room bytes ≡ Ok o → Ready o
+pub opened_ready : (room : ℕ) (bytes : List ℕ) (o : Opening) → room < 2 ^ 32 → opened_in room bytes ≡ Ok o → Begun o
 opened_ready room bytes o rl e = at_sheet (rules.read (take 9 bytes)) refl e
   where
-    at_size : (s : Sheet) (m : ℕ) → Sound s → Based s m → Fits (sizes_of s) room room room room → (r : Result ℕ P.Refusal) → size_of (2 * purse s) m (word_count s House) ≡ r → open_size s m r ≡ Ok o → Ready o
+    at_size : (s : Sheet) (m : ℕ) → Sound s → Based s m → Fits (sizes_of s) room room room room → (r : Result ℕ P.Refusal) → size_of (2 * purse s) m (word_count s House) ≡ r → open_size s m r ≡ Ok o → Begun o
     at_size s m h b f (Ok k) er q =
-        subst Ready (ok_same _ o q) (record { sound = h; sizes_are = refl; few = f.few; few_house = (let a = f.house in omega (arith, a, rl)); few_guest = (let a = f.guest in omega (arith, a, rl)); based = b; small = size_small (2 * purse s) m (word_count s House) k (sym er) })
+        subst Begun (ok_same _ o q) (record { sound = h; sizes_are = refl; few = f.few; few_house = (let a = f.house in omega (arith, a, rl)); few_guest = (let a = f.guest in omega (arith, a, rl)); based = b; small = size_small (2 * purse s) m (word_count s House) k (sym er) })
     at_size s m h b f (Err x) er q = no_ok _ o q
 
-    at_base : (s : Sheet) (n : ℕ) → Sound s → Fits (sizes_of s) room room room room → (r : Result ℕ P.Refusal) → base_of s n ≡ r → open_base s r ≡ Ok o → Ready o
+    at_base : (s : Sheet) (n : ℕ) → Sound s → Fits (sizes_of s) room room room room → (r : Result ℕ P.Refusal) → base_of s n ≡ r → open_base s r ≡ Ok o → Begun o
     at_base s n h f (Ok m) er q = at_size s m h (base_based s n m h er) f (size_of (2 * purse s) m (word_count s House)) refl q
     at_base s n h f (Err x) er q = no_ok _ o q
 
-    at_number : (s : Sheet) → Sound s → Fits (sizes_of s) room room room room → (r : Option ℕ) → open_number s r ≡ Ok o → Ready o
+    at_number : (s : Sheet) → Sound s → Fits (sizes_of s) room room room room → (r : Option ℕ) → open_number s r ≡ Ok o → Begun o
     at_number s h f (Some n) q = at_base s n h f (base_of s n) refl q
     at_number s h f None q = no_ok _ o q
 
-    at_memory : (s : Sheet) → Sound s → (r : Result Sizes W.Refusal) → admitted (sizes_of s) room room room room ≡ r → open_memory s (drop 9 bytes) r ≡ Ok o → Ready o
+    at_memory : (s : Sheet) → Sound s → (r : Result Sizes W.Refusal) → admitted (sizes_of s) room room room room ≡ r → open_memory s (drop 9 bytes) r ≡ Ok o → Begun o
     at_memory s h (Ok z) er q = at_number s h (admitted_fits z (sizes_of s) room room room room (sym er)).1 (front (numbers (drop 9 bytes))) q
     at_memory s h (Err x) er q = no_ok _ o q
 
-    at_sheet : (r : Result Sheet R.Refusal) → rules.read (take 9 bytes) ≡ r → open_sheet_in room (drop 9 bytes) r ≡ Ok o → Ready o
+    at_sheet : (r : Result Sheet R.Refusal) → rules.read (take 9 bytes) ≡ r → open_sheet_in room (drop 9 bytes) r ≡ Ok o → Begun o
     at_sheet (Ok s) er q = at_memory s (read_sound (take 9 bytes) s er) (admitted (sizes_of s) room room room room) refl q
     at_sheet (Err x) er q = no_ok _ o q

@@ -29,12 +29,12 @@ use Rattle.answers.specs.declared.Opening.{Opening}
 use Rattle.answers.specs.declared.Kept.{Kept}
 use Rattle.answers.specs.declared.Answer.TheVariants.{Refused, One, Both}
 use Rattle.answers.specs.Files.{opened_in, past_m, plan_length, plan_in, kept_by, both, with_rival, sized_rival, beyond, with_plan, with_opening, reckoned_in}
-use Rattle.answers.specs.Ready.{Ready}
+use Rattle.answers.specs.Ready.{Begun}
 use Rattle.answers.specs.Promised.{plan_read, played_sum, Keeps, OnePlanIn, TwoPlansIn, ReckonsIn}
 use Rattle.answers.proofs.Wholes.{stands, seat_words, plan_is, well, table_is}
 use Rattle.answers.proofs.Begins.{opened_ready}
 
-module _ (o : Opening) (r : Ready o) (w : Player) (bytes : List ℕ) (rows : List Weights) (e : plan_in o w bytes ≡ Ok rows) where
+module _ (o : Opening) (r : Begun o) (w : Player) (bytes : List ℕ) (rows : List Weights) (e : plan_in o w bytes ≡ Ok rows) where
   abbrev m : ℕ
   m = o.m
 

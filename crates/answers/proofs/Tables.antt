@@ -20,14 +20,14 @@ use Rattle.hands.specs.Match.{outcomes_of, hands_of}
 use Rattle.plans.specs.Plan.{plan_of}
 use Rattle.answers.specs.declared.Opening.{Opening}
 use Rattle.answers.specs.Files.{past_m, plan_length, plan_in}
-use Rattle.answers.specs.Ready.{Ready}
+use Rattle.answers.specs.Ready.{Begun}
 use Rattle.answers.specs.Promised.{plan_read}
 use Rattle.answers.specs.Hands.{hand_line, outcome_line, hand_lines, play_plan, table_of, tree_of, AtTable, PlaysIn}
 use Rattle.answers.proofs.Wholes.{stands, well}
 use Rattle.answers.proofs.Begins.{opened_ready}
 use Rattle.answers.proofs.Promises.{keeps}
 
-at_table : (o : Opening) (r : Ready o) (bytes : List ℕ) (rows : List Weights) → plan_in o House bytes ≡ Ok rows → AtTable o rows
+at_table : (o : Opening) (r : Begun o) (bytes : List ℕ) (rows : List Weights) → plan_in o House bytes ≡ Ok rows → AtTable o rows
 unfolding WaysArePlayed PlayedIsAWay WordsFall MatchHolds MatchIsMet
 at_table o r bytes rows e =
     let m = o.m in

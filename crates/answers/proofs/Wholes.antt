@@ -41,11 +41,11 @@ use Rattle.answers.specs.declared.Opening.{Opening}
 use Rattle.answers.specs.Files.{plan_in, plan_length, kept_by, beyond, sized_rival}
 use Rattle.answers.specs.declared.Answer.TheVariants.{One}
 use Rattle.answers.specs.declared.Kept.{Kept}
-use Rattle.answers.specs.Ready.{Ready}
+use Rattle.answers.specs.Ready.{Begun}
 use Rattle.answers.specs.Steps.{Standing, Keeping, Roomy}
 use Rattle.answers.proofs.Openings.{Fits, tree_admitted, size_small}
 
-module _ (o : Opening) (r : Ready o) where
+module _ (o : Opening) (r : Begun o) where
   abbrev s : Sheet
   s = o.sheet
 

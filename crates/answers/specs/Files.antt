@@ -30,7 +30,7 @@ use Rattle.answers.specs.declared.Kept.{Kept}
 use Rattle.answers.specs.declared.Answer.{Answer}
 use Rattle.answers.specs.declared.Answer.TheVariants.{Refused, One, Both}
 
--- the places that the programs have memory for; as many sights of each player, and as many entries of the work row
+-- the places that `reckon` and `play` have memory for; as many sights of each player, and as many entries of the work row
 abbrev pub room : ℕ
 room = 4096
 
@@ -61,7 +61,7 @@ open_sheet_in space rest (Err e) = Err (OfSheet e)
 abbrev pub opened_in : ℕ → List ℕ → Result Opening Refusal
 opened_in space bytes = open_sheet_in space (drop 9 bytes) (rules.read (take 9 bytes))
 
--- the same for the programs
+-- the same for `reckon` and `play`
 abbrev pub open_sheet : List ℕ → Result Sheet R.Refusal → Result Opening Refusal
 open_sheet = open_sheet_in room
 

@@ -75,7 +75,7 @@ pub record ReckonsIn (space : ℕ) (bytes : List ℕ) : Type 0 where
   pub one : (z : Sizes) (k : Kept) → reckoned_in space bytes ≡ One z k → OnePlanIn space bytes z k
   pub two : (z : Sizes) (k r : Kept) (v : Verdict) → reckoned_in space bytes ≡ Both z k r v → TwoPlansIn space bytes z k r v
 
--- the same for the programs
+-- the same for `reckon`
 abbrev pub OnePlan : List ℕ → Sizes → Kept → Type 0
 OnePlan = OnePlanIn room
 

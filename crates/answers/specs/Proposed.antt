@@ -1,4 +1,4 @@
--- What the proposing program has to say of a file: a plan that the plan reader takes, or a refusal. Assumes nothing: these are definitions.
+-- What `answers::propose` has to say of a file: a plan that the plan reader takes, a refusal, or that memory is wanting. Assumes nothing: these are definitions.
 use Rattle.std.specs.Prelude.{◌≡◌, ℕ, List, Ok, Err, Result}
 use Rattle.rules.specs.declared.Player.{Player}
 use Rattle.rules.specs.declared.Player.TheVariants.{House, Guest}

@@ -6,7 +6,7 @@ ghost use Rattle.std.specs.Prelude.{◌≡◌, ℕ, ◌*◌, ◌≤◌, List, []
 ghost use Rattle.answers.specs.Text.{number_of, place_of, refused, sized, kept as kept_as, shown as shown_as};
 ghost use Rattle.answers.specs.Files.{opened_in, past_m, plan_in, sized_rival, with_opening, reckoned_in, reckoned};
 ghost use Rattle.answers.specs.Proposed.{opened_for, Proposed, Unproposed};
-ghost use Rattle.answers.specs.Ready.{Ready};
+ghost use Rattle.answers.specs.Ready.{ReadyIn, Begun};
 ghost use Rattle.plans.specs.declared.Row.{Row as OneRow};
 ghost use Rattle.answers.specs.Steps.{Roomy, Standing, Keeping, SomeKept};
 ghost use Rattle.rules.specs.declared.Player.TheVariants.{House, Guest};
@@ -198,7 +198,8 @@ fn past(input: &[u8], n: usize) -> &[u8]
 // Reads the beginning of a file: the rule sheet, whose tree has to have at most `room` places, and m.
 fn open_file(room: u32, input: &[u8]) -> Result<Opening, Refusal>
     ensures value { result ≡ opened_in room input.now }
-    ensures ready { IfOk result Ready }
+    ensures ready { IfOk result (ReadyIn room) }
+    ensures begun { IfOk result Begun }
 {
     let sheet = match rules::read(front(input, 9)) {
         Ok(sheet) => sheet,
@@ -224,7 +225,7 @@ fn open_file(room: u32, input: &[u8]) -> Result<Opening, Refusal>
 
 // Writes the tree and its sights into memory of their length.
 fn build_tree(o: Opening, nodes: &mut [Node], house: &mut [Sight], guest: &mut [Sight])
-    requires ready { Ready o }
+    requires ready { Begun o }
     requires rooms { Roomy o.sizes nodes.old house.old guest.old }
     ensures { Standing o nodes.new house.new guest.new }
 {
@@ -253,7 +254,7 @@ fn rival(
     theirs: &[Sight],
     work: &mut [Entry],
 ) -> Result<Answer, AllocError>
-    requires ready { Ready o }
+    requires ready { Begun o }
     requires tree { Rep (2 * purse o.sheet) o.m nodes.old 0 (tree o.sheet o.m) }
     requires rooms { (length nodes.old ≡ o.sizes.places) × (length work.old ≡ o.sizes.places) }
     requires sights { theirs.now ≡ sights_of Guest (game_as o.sheet) }
@@ -291,7 +292,7 @@ fn answer_plans<S: Stages>(
     theirs: &[Sight],
     work: &mut [Entry],
 ) -> Result<Answer, AllocError>
-    requires ready { Ready o }
+    requires ready { Begun o }
     requires tree { Rep (2 * purse o.sheet) o.m nodes.old 0 (tree o.sheet o.m) }
     requires rooms { (length nodes.old ≡ o.sizes.places) × (length work.old ≡ o.sizes.places) }
     requires ours { ours.now ≡ sights_of House (game_as o.sheet) }
@@ -325,7 +326,7 @@ fn answer_file<S: Stages>(
     guest: &mut [Sight],
     work: &mut [Entry],
 ) -> Result<Answer, AllocError>
-    requires ready { Ready o }
+    requires ready { Begun o }
     requires rooms { Roomy o.sizes nodes.old house.old guest.old }
     requires work { length work.old ≡ o.sizes.places }
     ensures { IfOk result (λ a. a ≡ with_opening (past_m input.now) (Ok o)) }
@@ -377,7 +378,7 @@ fn make_memory(heap: Global, z: Sizes) -> Result<Memory, AllocError>
     })
 }
 
-// The answer to a file whose tree has at most `room` places.
+// The answer to a file, with memory for `room` places.
 fn judge<S: Stages>(
     heap: Global,
     stages: &mut S,
@@ -403,7 +404,7 @@ fn judge<S: Stages>(
     )
 }
 
-// What the reckoning program prints for a file whose tree has at most `room` places; `stages` is called at each stage.
+// What the reckoning program would print for a file, with memory for `room` places; `stages` is called at each stage.
 pub fn reckon_in_stages<S: Stages>(
     heap: Global,
     stages: &mut S,
@@ -417,7 +418,7 @@ pub fn reckon_in_stages<S: Stages>(
     format!(in heap; "{answer}")
 }
 
-// What the reckoning program prints for a file whose tree has at most `room` places.
+// What the reckoning program would print for a file, with memory for `room` places.
 pub fn reckon_in(heap: Global, room: u32, input: &[u8]) -> Result<String, AllocError>
     ensures text { IfOk result (λ s. string_bytes s ≡ shown_as (reckoned_in room input.now)) }
     ensures promised { ReckonsIn room input.now }
@@ -498,7 +499,7 @@ fn play_plan(
     nodes: &[Node],
     ours: &[Sight],
 ) -> Result<String, AllocError>
-    requires ready { Ready o }
+    requires ready { Begun o }
     requires tree { Rep (2 * purse o.sheet) o.m nodes.now 0 (tree o.sheet o.m) }
     requires room { length nodes.now ≡ o.sizes.places }
     requires ours { ours.now ≡ sights_of House (game_as o.sheet) }
@@ -526,7 +527,7 @@ fn play_file(
     house: &mut [Sight],
     guest: &mut [Sight],
 ) -> Result<String, AllocError>
-    requires ready { Ready o }
+    requires ready { Begun o }
     requires rooms { Roomy o.sizes nodes.old house.old guest.old }
     ensures { IfOk result (λ s. string_bytes s ≡ play_opening (past_m input.now) (Ok o)) }
 {
@@ -540,7 +541,7 @@ fn play_file(
     )
 }
 
-// What the playing program prints for a file whose tree has at most `room` places.
+// What the playing program would print for a file, with memory for `room` places.
 pub fn play_in(heap: Global, room: u32, input: &[u8]) -> Result<String, AllocError>
     ensures text { IfOk result (λ s. string_bytes s ≡ play_text_in room input.now) }
     ensures promised { PlaysIn room input.now }
@@ -571,7 +572,7 @@ pub enum NoPlan {
 // Reads the beginning of a file for which a player is to have a plan.
 fn open_chair(room: u32, chair: Player, input: &[u8]) -> Result<Opening, Refusal>
     ensures value { result ≡ opened_for room chair input.now }
-    ensures ready { IfOk result Ready }
+    ensures ready { IfOk result Begun }
 {
     let o = match open_file(room, input) {
         Ok(o) => o,
@@ -638,7 +639,7 @@ fn plan_file<P: Progress>(
     house: &mut [Sight],
     guest: &mut [Sight],
 ) -> Result<Vec<u8>, AllocError>
-    requires ready { Ready o }
+    requires ready { Begun o }
     requires rooms { Roomy o.sizes nodes.old house.old guest.old }
     ensures { IfOk result (λ v. (rows : List OneRow) × (plan_in o chair v.items ≡ Ok rows)) }
 {
@@ -648,7 +649,7 @@ fn plan_file<P: Progress>(
     plan_for(heap, progress, o, chair, rounds, nodes, ours, theirs)
 }
 
-// What the proposing program writes for a file: the bytes of a plan for the player in this chair, after at most `rounds` rounds.
+// The bytes of a plan for the player in this chair, for the rule sheet and m of a file, after at most `rounds` rounds. No program calls it yet.
 pub fn propose<P: Progress>(
     heap: Global,
     progress: &P,

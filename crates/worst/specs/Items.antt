@@ -85,7 +85,7 @@ told_plan w rows = plan_of rows w.counts
 abbrev pub Powers : ℕ → ℕ → List ℕ → Type 0
 Powers m n powers = (i : ℕ) → i ≤ n → (i < length powers) × (slice_index powers i ≡ m ^ i)
 
--- what the numbers keep to, so that each sum and product is small
+-- what the numbers keep to, so that each sum, and each product but m × share, is small
 pub record Bounds (w : Told) (nodes : List Node) (m : ℕ) (powers : List ℕ) : Type 0 where
   pub some : 0 < w.table
   pub base : 2 ≤ m

@@ -138,7 +138,7 @@ fn spread(
             at,
         };
         let node = nodes[at as usize];
-        // as `expand`, without a call for ends and the guest's choices
+        // as `expand`, but ends and the guest's choices go to `settle` at once
         let next = match node.place {
             Place::Deal(_) | Place::House(_, _) => spread(
                 nodes, rows, m, powers, work, grown.len, kid,
@@ -225,7 +225,7 @@ fn gather(
             left: e.left,
             at,
         };
-        // as `expand`, without a call for ends and the guest's choices
+        // as `expand`, but ends and the guest's choices go to `settle` at once
         let next = match nodes[at as usize].place {
             Place::Deal(_) | Place::House(_, _) => spread(
                 nodes, rows, m, powers, work, grown.len, kid,
