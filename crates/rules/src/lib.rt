@@ -4,16 +4,29 @@
 
 ghost use Rattle.std.specs.Prelude.{◌≡◌, IfOk};
 ghost use Rattle.rules.specs.Read.{read as read_as, ranged, number_of, place_of};
+ghost use Rattle.rules.specs.Play.{other};
 ghost use Rattle.rules.specs.Sound.{Sound};
 ghost use Rattle.rules.specs.Statements.{SheetsStand, WeightsSum, EndsSum, SmallRows};
 ghost use Rattle.rules.specs.Walk.{WalkNumbers};
 ghost use Rattle.rules.specs.Counts.{WordsAre, SightsAre};
 
 // The two players. The house is the table that plays by a plan.
-#[derive(Clone, Copy)]
+#[derive(Clone, Copy, PartialEq, Eq)]
 pub enum Player {
     House,
     Guest,
+}
+
+impl Player {
+    // The player who sits opposite.
+    pub fn other(self) -> Player
+        ensures { result ≡ other self }
+    {
+        match self {
+            Player::House => Player::Guest,
+            Player::Guest => Player::House,
+        }
+    }
 }
 
 // Tokens: the ante, and the bet of each round.
