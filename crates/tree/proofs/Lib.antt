@@ -19,3 +19,4 @@ mod Builds
 mod Choices
 pub mod Offers
 pub mod Reps
+pub mod Siblings

@@ -5,3 +5,4 @@ pub mod Seen
 pub mod Slots
 pub mod Told
 pub mod Built
+pub mod Siblings

@@ -19,6 +19,10 @@ ghost use Rattle.rules.specs.declared.Player.TheVariants.{House, Guest};
 
 use rules::{Ends, Player, Sheet};
 
+mod kids;
+
+pub use kids::Kids;
+
 // The choices of a round so far: so many checks, then so many bets and raises. A call ends a round and is not counted.
 #[derive(Clone, Copy)]
 pub struct Line {
