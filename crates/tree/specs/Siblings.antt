@@ -1,7 +1,7 @@
 -- Going from tree to tree by their sizes. Assumes nothing: these are definitions.
-use Rattle.std.specs.Prelude.{◌≡◌, ℕ, ◌+◌, ◌<◌, ◌≤◌, List, Some, None, Option}
-use Rattle.cards.specs.Game.{Tree, Trees}
-use Rattle.cards.specs.Reckon.{places_all}
+use Rattle.std.specs.Prelude.{◌≡◌, ℕ, zero, suc, ◌+◌, ◌<◌, ◌≤◌, List, Some, None, Option}
+use Rattle.cards.specs.Game.{Tree, Trees, none, more}
+use Rattle.cards.specs.Reckon.{places, places_all}
 use Rattle.tree.specs.Rep.{Rep, Reps, node_at}
 use Rattle.tree.specs.declared.Node.{Node}
 
@@ -31,3 +31,9 @@ pub record Stepped (nodes : List Node) (i e x : ℕ) (later : List Node) (j f : 
 abbrev pub step : List Node → ℕ → ℕ → Option ℕ → List Node → ℕ → ℕ → Type 0
 step nodes i e (Some x) later j f = Stepped nodes i e x later j f
 step nodes i e None later j f = (e ≤ i) × ((later ≡ nodes) × ((j ≡ i) × (f ≡ e)))
+
+-- where the n-th of the trees that lie from i on begins
+abbrev pub start : ℕ → Trees → ℕ → ℕ
+start i none n = i
+start i (more t ts) zero = i
+start i (more t ts) (suc n) = start (i + places t) ts n
