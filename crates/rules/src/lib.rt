@@ -95,11 +95,7 @@ impl Refusal {
 fn within(value: u8, low: u8, high: u8) -> Option<u8>
     ensures { result ≡ ranged low high value }
 {
-    if low <= value && value <= high {
-        Some(value)
-    } else {
-        None
-    }
+    (low..=high).contains(&value).then_some(value)
 }
 
 // Reads a rule sheet: each byte within its range, and enough cards.
