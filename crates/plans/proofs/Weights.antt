@@ -1,8 +1,9 @@
 -- Numbers in bytes, and the weights of a row. Assumes nothing.
-use Rattle.std.proofs.Common.{◌≡◌, ℕ, zero, suc, ◌+◌, ◌*◌, ◌<◌, ◌≤◌, eqb, List, [], ◌∷◌, length, get_or, drop, sym, refl, ap, ◌∙◌, arith}
+use Rattle.std.proofs.Common.{◌≡◌, ℕ, zero, suc, ◌+◌, ◌*◌, ◌<◌, ◌≤◌, Bool, true, false, Some, None, List, [], ◌∷◌, length, get_or, drop, sym, refl, ap, ◌∙◌, arith}
 use Rattle.cards.specs.Game.{pick, total}
 use Rattle.std.proofs.lemmas.List.{drop-drop, get_or-drop}
-use Rattle.std.proofs.lemmas.Bool.{eq-eqb, ne_eqb, lt-ltb, le-ltb}
+use Rattle.std.proofs.lemmas.Bool.{lt-ltb, le-ltb}
+use Rattle.std.specs.Bool.{then_some}
 use Rattle.plans.specs.declared.Row.{Row}
 use Rattle.plans.specs.Numbers.{number_of_bytes, numbers}
 use Rattle.plans.specs.Bytes.{row_of}
@@ -31,9 +32,6 @@ numbers_on (suc k) xs =
     ap (λ n. numbers (drop n xs)) e ∙ ap numbers (sym (drop-drop (4 * k) 4 xs)) ∙ numbers_on k (drop 4 xs)
     ∙ ap (drop k) (one_on xs) ∙ drop-drop k 1 (numbers xs) ∙ ap (λ n. drop n (numbers xs)) f
 
-pub numbers_at : (at k : ℕ) (xs : List ℕ) → numbers (drop (at + 4 * k) xs) ≡ drop k (numbers (drop at xs))
-numbers_at at k xs = ap numbers (sym (drop-drop (4 * k) at xs)) ∙ numbers_on k (drop at xs)
-
 -- the weights of a row
 pub total_three : (ws : List ℕ) → length ws ≡ 3 → total ws ≡ get_or ws 0 0 + get_or ws 1 0 + get_or ws 2 0
 unfolding total
@@ -43,28 +41,26 @@ total_three (a ∷ b ∷ []) h = absurd (omega arith)
 total_three (a ∷ b ∷ c ∷ []) h = omega arith
 total_three (a ∷ b ∷ c ∷ d ∷ ws) h = absurd (omega arith)
 
-pub picked_even : {X : Type 0} (x y : X) (a b : ℕ) → a ≡ b → x ≡ pick (eqb a b) x y
-picked_even x y a b e = ap (λ t. pick t x y) (sym (eq-eqb a b e))
-
-pub picked_odd : {X : Type 0} (x y : X) (a b : ℕ) → (a ≡ b → ⊥) → y ≡ pick (eqb a b) x y
-picked_odd x y a b e = ap (λ t. pick t x y) (sym (ne_eqb a b e))
+pub then_picked : {X : Type 0} (b : Bool) (x : X) → then_some b x ≡ pick b (Some x) None
+then_picked true x = refl
+then_picked false x = refl
 
 -- a row from numbers that begin four bytes apart
-number_next : (xs : List ℕ) (at k : ℕ) → get_or (numbers (drop (at + 4 * k) xs)) 0 0 ≡ get_or (numbers (drop at xs)) k 0
-number_next xs at k = ap (λ l. get_or l 0 0) (numbers_at at k xs) ∙ get_or-drop k (numbers (drop at xs)) 0 0 ∙ (let z : k + 0 ≡ k = omega arith in ap (λ n. get_or (numbers (drop at xs)) n 0) z)
+number_next : (xs : List ℕ) (k : ℕ) → get_or (numbers (drop (4 * k) xs)) 0 0 ≡ get_or (numbers xs) k 0
+number_next xs k = ap (λ l. get_or l 0 0) (numbers_on k xs) ∙ get_or-drop k (numbers xs) 0 0 ∙ (let z : k + 0 ≡ k = omega arith in ap (λ n. get_or (numbers xs) n 0) z)
 
-module _ (xs : List ℕ) (at c : ℕ) where
-  pub row_three : 2 < c → (a b d : ℕ) → a ≡ get_or (numbers (drop at xs)) 0 0 → b ≡ get_or (numbers (drop (at + 4) xs)) 0 0 → d ≡ get_or (numbers (drop (at + 8) xs)) 0 0 →
-      ◌≡◌ {A = Row} (record { weights = a ∷ b ∷ d ∷ [] }) (row_of c (numbers (drop at xs)))
+module _ (xs : List ℕ) (c : ℕ) where
+  pub row_three : 2 < c → (a b d : ℕ) → a ≡ get_or (numbers (drop 0 xs)) 0 0 → b ≡ get_or (numbers (drop 4 xs)) 0 0 → d ≡ get_or (numbers (drop 8 xs)) 0 0 →
+      ◌≡◌ {A = Row} (record { weights = a ∷ b ∷ d ∷ [] }) (row_of c (numbers xs))
   row_three h a b d p q r =
       let t = lt-ltb 2 c h in
-      let s = number_next xs at 1 in
-      let u = number_next xs at 2 in
+      let s = number_next xs 1 in
+      let u = number_next xs 2 in
       rw (t, p, q, r, s, u) refl
 
-  pub row_two : c ≤ 2 → (a b : ℕ) → a ≡ get_or (numbers (drop at xs)) 0 0 → b ≡ get_or (numbers (drop (at + 4) xs)) 0 0 →
-      ◌≡◌ {A = Row} (record { weights = a ∷ b ∷ 0 ∷ [] }) (row_of c (numbers (drop at xs)))
+  pub row_two : c ≤ 2 → (a b : ℕ) → a ≡ get_or (numbers (drop 0 xs)) 0 0 → b ≡ get_or (numbers (drop 4 xs)) 0 0 →
+      ◌≡◌ {A = Row} (record { weights = a ∷ b ∷ 0 ∷ [] }) (row_of c (numbers xs))
   row_two h a b p q =
       let t = le-ltb 2 c h in
-      let s = number_next xs at 1 in
+      let s = number_next xs 1 in
       rw (t, p, q, s) refl

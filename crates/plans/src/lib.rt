@@ -5,9 +5,8 @@
 ghost use Rattle.std.specs.Prelude.{◌≡◌, ◌+◌, ◌*◌, ◌^◌, ◌<◌, ◌≤◌, length, drop, IfOk, Some, None, Ok, MatchResult, ◌==◌, nat_lt, slice_index};
 ghost use Rattle.cards.specs.Game.{pick, total};
 ghost use Rattle.rules.specs.Sound.{Sound};
-ghost use Rattle.rules.specs.Read.{ranged};
 ghost use Rattle.plans.specs.declared.Fault.TheVariants.{Memory};
-ghost use Rattle.plans.specs.Numbers.{number_of_bytes, numbers, front};
+ghost use Rattle.plans.specs.Numbers.{numbers, front};
 ghost use Rattle.plans.specs.Refusals.{number_of, place_of, Turned};
 ghost use Rattle.plans.specs.Bases.{divides, base_of, Based, size_of};
 ghost use Rattle.plans.specs.Bytes.{bytes_of, row_of, plan_as};
@@ -90,19 +89,12 @@ impl<T: Drop> From<alloc::AllocFailed<T>> for Fault {
     }
 }
 
-// Four bytes as a number, the low byte first.
-fn joined(a: u8, b: u8, c: u8, d: u8) -> u32
-    ensures { result ≡ number_of_bytes a b c d }
-{
-    a as u32 + 256 * (b as u32 + 256 * (c as u32 + 256 * d as u32))
-}
-
 // The number that begins at a byte.
 fn number_at(bytes: &[u8], at: usize) -> u32
     requires { at + 4 ≤ length bytes.now }
     ensures { result ≡ slice_index (numbers (drop at bytes.now)) 0 }
 {
-    joined(bytes[at], bytes[at + 1], bytes[at + 2], bytes[at + 3])
+    u32::from_le_bytes([bytes[at], bytes[at + 1], bytes[at + 2], bytes[at + 3]])
 }
 
 // The number m at the front, if there are four bytes.
@@ -112,18 +104,7 @@ pub fn read_base(bytes: &[u8]) -> Option<u32>
     let [a, b, c, d, ..] = bytes else {
         return None;
     };
-    Some(joined(*a, *b, *c, *d))
-}
-
-// The value, where it lies within low and high.
-fn within(value: u32, low: u32, high: u32) -> Option<u32>
-    ensures { result ≡ ranged low high value }
-{
-    if low <= value && value <= high {
-        Some(value)
-    } else {
-        None
-    }
+    Some(u32::from_le_bytes([*a, *b, *c, *d]))
 }
 
 // The value, where so many divide it.
@@ -131,7 +112,7 @@ fn divided(value: u32, by: u32) -> Option<u32>
     requires { 0 < by }
     ensures { result ≡ pick (divides by value) (Some value) None }
 {
-    if value % by == 0 { Some(value) } else { None }
+    (value % by == 0).then_some(value)
 }
 
 // The number m, where it is one for the words of this rule sheet.
@@ -141,7 +122,7 @@ pub fn check_base(sheet: Sheet, m: u32) -> Result<u32, Refusal>
     ensures based { IfOk result (Based sheet) }
 {
     let cards = sheet.ranks as u32 * sheet.copies as u32;
-    let Some(m) = within(m, 2, 1_000_000) else {
+    let Some(m) = (2..=1_000_000).contains(&m).then_some(m) else {
         return Err(Refusal::Base);
     };
     let Some(m) = divided(m, cards) else {
@@ -191,25 +172,20 @@ pub fn plan_bytes(raises: u8, sights: &[Sight]) -> usize
     requires { length sights.now < 2 ^ 32 }
     ensures { result ≡ bytes_of raises sights.now }
 {
-    let mut all: usize = 0;
-    for sight in sights {
-        all += 4 * sight.offers(raises) as usize;
-    }
-    all
+    4 * sights
+        .iter()
+        .map(|sight| sight.offers(raises) as usize)
+        .sum::<usize>()
 }
 
-// The row of a sight with two or three choices, whose numbers begin at a byte.
-fn row_at(bytes: &[u8], at: usize, offers: u8) -> Row
-    requires { (at + 4 * offers ≤ length bytes.now) × ((2 ≤ offers) × (offers ≤ 3)) }
-    ensures { result ≡ row_of offers (numbers (drop at bytes.now)) }
+// The row of a sight with two or three choices, whose numbers begin at the first byte.
+fn first_row(bytes: &[u8], offers: u8) -> Row
+    requires { (4 * offers ≤ length bytes.now) × ((2 ≤ offers) × (offers ≤ 3)) }
+    ensures { result ≡ row_of offers (numbers bytes.now) }
 {
-    let first = number_at(bytes, at);
-    let second = number_at(bytes, at + 4);
-    let third = if offers > 2 {
-        number_at(bytes, at + 8)
-    } else {
-        0
-    };
+    let first = number_at(bytes, 0);
+    let second = number_at(bytes, 4);
+    let third = if offers > 2 { number_at(bytes, 8) } else { 0 };
     Row {
         weights: [first, second, third],
     }
@@ -220,11 +196,7 @@ fn even(row: Row, m: u32) -> Option<Row>
     ensures { result ≡ pick (total row.weights == m) (Some row) None }
 {
     let [a, b, c] = row.weights;
-    if a as u64 + b as u64 + c as u64 == m as u64 {
-        Some(row)
-    } else {
-        None
-    }
+    (a as u64 + b as u64 + c as u64 == m as u64).then_some(row)
 }
 
 // Reads a plan for these sights: the weights at each sight sum to m.
@@ -242,14 +214,14 @@ pub fn read_plan(
         return Err(Fault::Refused(Refusal::Length(bytes.len())));
     }
     let mut rows = Vec::new(heap);
-    let mut at: usize = 0;
+    let mut rest = bytes;
     for (i, sight) in sights.iter().enumerate() {
         let offers = sight.offers(raises);
-        let Some(row) = even(row_at(bytes, at, offers), m) else {
+        let Some(row) = even(first_row(rest, offers), m) else {
             return Err(Fault::Refused(Refusal::Sum(i)));
         };
         rows.push(row)?;
-        at += 4 * offers as usize;
+        rest = &rest[4 * offers as usize..];
     }
     Ok(rows)
 }

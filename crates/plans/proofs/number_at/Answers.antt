@@ -14,5 +14,4 @@ returns c =
     let b = get_or-drop at xs 1 0 in
     let g = get_or-drop at xs 2 0 in
     let d = get_or-drop at xs 3 0 in
-    let j = c.joined.ensures in
-    cc
+    omega (arith, e, a, b, g, d, c.from_le_bytes.ensures)
