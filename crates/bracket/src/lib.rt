@@ -17,7 +17,7 @@ use tree::{Node, Place};
 const HALF: u64 = 0x1_0000_0000;
 
 // A number in two halves of 64 bits.
-#[derive(Clone, Copy)]
+#[derive(Clone, Copy, PartialEq, Eq)]
 pub struct Wide {
     pub high: u64,
     pub low: u64,
@@ -44,17 +44,10 @@ impl Wide {
     fn sum(a: u64, b: u64) -> Wide
         ensures { value_of result ≡ a + b }
     {
-        let space = u64::MAX - a;
-        if b <= space {
-            Wide {
-                high: 0,
-                low: a + b,
-            }
-        } else {
-            Wide {
-                high: 1,
-                low: b - space - 1,
-            }
+        let (low, carried) = a.overflowing_add(b);
+        Wide {
+            high: u64::from(carried),
+            low,
         }
     }
 
@@ -74,7 +67,7 @@ impl Wide {
     pub fn same(self, other: Wide) -> bool
         ensures { result ≡ (value_of self == value_of other) }
     {
-        self.high == other.high && self.low == other.low
+        self == other
     }
 }
 
@@ -104,21 +97,15 @@ fn turned_place(place: Place) -> Place
 pub fn turn(nodes: &mut [Node])
     ensures { nodes.new ≡ map turned_node nodes.old }
 {
-    for i in 0..nodes.len() {
-        let node = nodes[i];
-        nodes[i] = Node {
-            place: turned_place(node.place),
-            share: node.share,
-            size: node.size,
-        };
+    for node in nodes.iter_mut() {
+        node.place = turned_place(node.place);
     }
 }
 
 // A tree that lies in the nodes lies there turned, and turning twice gives the nodes again.
-pub fn turned_rows_stand() -> u8
+pub fn turned_rows_stand()
     ensures { TurnedRows }
 {
-    0
 }
 
 // Whether two plans, one at each chair, are the best there are, or more may be had.
@@ -154,8 +141,7 @@ pub fn bracket(v: u64, p: u64, u: u64, q: u64, table: u64) -> Verdict
 }
 
 // For every sheet that can be dealt: two plans share out what is on the table, and where the verdict is best neither can be bettered.
-pub fn bracket_stands() -> u8
+pub fn bracket_stands()
     ensures { BracketsStand }
 {
-    0
 }

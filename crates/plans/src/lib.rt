@@ -227,8 +227,7 @@ pub fn read_plan(
 }
 
 // A plan that was read is a plan of the player whose sights it was read for.
-pub fn plans_stand() -> u8
+pub fn plans_stand()
     ensures { PlansStand }
 {
-    0
 }

@@ -5,18 +5,18 @@ use Rattle.tree.specs.Rep.{node, node_at}
 use Rattle.bracket.specs.Turned.{turned_node}
 use Rattle.bracket.proofs.turn.Goals as goal
 
-pub loop-i-preserved : goal.loop-i-preserved
-loop-i-preserved c =
-    let ns = c.loop-i.nodes in
-    let i = c.loop-i.i in
+pub loop-node-preserved : goal.loop-node-preserved
+loop-node-preserved c =
+    let ns = c.loop-node.nodes in
+    let i = c.loop-node.node-index in
     let x = node_at ns i in
     let h : i < length ns = omega arith in
-    ap (λ p. set ns i (node p x.share x.size)) c.turned_place.ensures
-    ∙ map_over_more turned_node c.args.nodes.now ns i x c.loop-i-test.true c.loop-i.invariant (get_or_default ns i _ x h)
+    ap (λ p. set ns i (node p x.share x.size)) c.turned_place-node.ensures
+    ∙ map_over_more turned_node c.args.nodes.now ns i x c.loop-node-test.true c.loop-node.invariant (get_or_default ns i _ x h)
 
 pub returns : goal.returns
 returns c =
     let s = c.args.nodes.now in
-    let i = c.loop-i.i in
-    c.loop-i.invariant ∙ ap (λ l. map turned_node (take i s) ++ l) (drop_all i s c.loop-i-test.false) ∙ append-nil (map turned_node (take i s))
-    ∙ ap (map turned_node) (take_all i s c.loop-i-test.false)
+    let i = c.loop-node.node-index in
+    c.loop-node.invariant ∙ ap (λ l. map turned_node (take i s) ++ l) (drop_all i s c.loop-node-test.false) ∙ append-nil (map turned_node (take i s))
+    ∙ ap (map turned_node) (take_all i s c.loop-node-test.false)
