@@ -105,8 +105,7 @@ pub fn turn(nodes: &mut [Node])
 // A tree that lies in the nodes lies there turned, and turning twice gives the nodes again.
 pub fn turned_rows_stand()
     ensures { TurnedRows }
-{
-}
+{}
 
 // Whether two plans, one at each chair, are the best there are, or more may be had.
 #[derive(Clone, Copy)]
@@ -143,5 +142,4 @@ pub fn bracket(v: u64, p: u64, u: u64, q: u64, table: u64) -> Verdict
 // For every sheet that can be dealt: two plans share out what is on the table, and where the verdict is best neither can be bettered.
 pub fn bracket_stands()
     ensures { BracketsStand }
-{
-}
+{}

@@ -229,5 +229,4 @@ pub fn read_plan(
 // A plan that was read is a plan of the player whose sights it was read for.
 pub fn plans_stand()
     ensures { PlansStand }
-{
-}
+{}
