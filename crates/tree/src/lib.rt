@@ -14,7 +14,7 @@ ghost use Rattle.tree.specs.Slots.{slot_of, Ranged, Tabled, tabled_place, tabled
 ghost use Rattle.rules.specs.Sights.{is_same_player, sights};
 ghost use Rattle.rules.specs.Counts.{count_of_sights, word_count};
 ghost use Rattle.tree.specs.Told.{told, listed, ended, nth, offers_of};
-ghost use Rattle.tree.specs.Built.{number_of, refused_at, at_most, admitted, sizes_of, Measured, Memory, Begins, nodes_of};
+ghost use Rattle.tree.specs.Built.{number_of, refused_at, at_most, fitted, limited, admitted, sizes_of, Measured, Memory, Begins, nodes_of};
 ghost use Rattle.rules.specs.declared.Player.TheVariants.{House, Guest};
 
 use rules::{Ends, Player, Sheet};
@@ -1041,9 +1041,9 @@ pub fn at_most(n: u32, most: usize) -> Option<u32>
     if n as usize <= most { Some(n) } else { None }
 }
 
-// The sizes, where places and sights fit the memory and there are not too many places.
-pub fn admit(sizes: Sizes, nodes: usize, house: usize, guest: usize) -> Result<Sizes, Refusal>
-    ensures { result ≡ admitted sizes nodes house guest }
+// The sizes, where places and sights fit their memory.
+pub fn fits(sizes: Sizes, nodes: usize, house: usize, guest: usize) -> Result<Sizes, Refusal>
+    ensures { result ≡ fitted sizes nodes house guest }
 {
     let Some(_) = at_most(sizes.places, nodes) else {
         return Err(Refusal::NoRoom);
@@ -1054,10 +1054,25 @@ pub fn admit(sizes: Sizes, nodes: usize, house: usize, guest: usize) -> Result<S
     let Some(_) = at_most(sizes.guest.sights, guest) else {
         return Err(Refusal::NoSightRoom);
     };
+    Ok(sizes)
+}
+
+// The sizes, where there are not too many places.
+pub fn few(sizes: Sizes) -> Result<Sizes, Refusal>
+    ensures { result ≡ limited sizes }
+{
     let Some(_) = at_most(sizes.places, 65536) else {
         return Err(Refusal::TooLarge);
     };
     Ok(sizes)
+}
+
+// The sizes, where places and sights fit the memory and there are not too many places.
+pub fn admit(sizes: Sizes, nodes: usize, house: usize, guest: usize) -> Result<Sizes, Refusal>
+    ensures { result ≡ admitted sizes nodes house guest }
+{
+    let fitting = fits(sizes, nodes, house, guest)?;
+    few(fitting)
 }
 
 // Writes the tree of a rule sheet and the sights of each player, or refuses and touches nothing.
