@@ -20,14 +20,14 @@ ghost use Rattle.rules.specs.declared.Player.TheVariants.{House, Guest};
 use rules::{Ends, Player, Sheet};
 
 // The choices of a round so far: so many checks, then so many bets and raises. A call ends a round and is not counted.
-#[derive(Clone, Copy)]
+#[derive(Clone, Copy, Default)]
 pub struct Line {
     pub checks: u8,
     pub bets: u8,
 }
 
 // What was done and shown before both players: the first round, the public card, the second round.
-#[derive(Clone, Copy)]
+#[derive(Clone, Copy, Default)]
 pub struct History {
     pub first: Line,
     pub public: Option<u8>,
@@ -35,7 +35,7 @@ pub struct History {
 }
 
 // A sight: what the player to act sees.
-#[derive(Clone, Copy)]
+#[derive(Clone, Copy, Default)]
 pub struct Sight {
     pub own: u8,
     pub history: History,
@@ -116,8 +116,19 @@ pub enum Place {
     Guest(Sight, u32),
 }
 
+// What stands in blank memory: over, and nobody has anything.
+impl Default for Place {
+    ghost use Rattle.tree.specs.declared.Place.TheVariants.{Over};
+
+    ghost is_default = { λ p. p ≡ Over (record { house = 0; guest = 0 }) };
+
+    fn default() -> Place {
+        Place::Over(Ends { house: 0, guest: 0 })
+    }
+}
+
 // A place, its share of the parts of the deal that leads to it (the copies left of the rank), and how many places its tree has.
-#[derive(Clone, Copy)]
+#[derive(Clone, Copy, Default)]
 pub struct Node {
     pub place: Place,
     pub share: u32,
@@ -154,15 +165,6 @@ enum Act {
 struct Stakes {
     purse: u32,
     bet: u32,
-}
-
-fn other(w: Player) -> Player
-    ensures { result ≡ other_of w }
-{
-    match w {
-        Player::House => Player::Guest,
-        Player::Guest => Player::House,
-    }
 }
 
 // A round's line with one choice more.
@@ -318,7 +320,7 @@ fn answers<F: Follow + Copy>(
     ensures { Written 0 (answers_as stakes.purse stakes.bet (F.then next) raises who hand) at out.old out.new result }
 {
     let owed = due(who, hand.paid);
-    let mut k = over(out, at + 1, 0, won_by(stakes.purse, other(who), hand));
+    let mut k = over(out, at + 1, 0, won_by(stakes.purse, who.other(), hand));
     k = next.follow(out, k, acted(who, Act::Call, owed, hand));
     if raises > 0 {
         k = answers(
@@ -327,7 +329,7 @@ fn answers<F: Follow + Copy>(
             k,
             stakes,
             raises - 1,
-            other(who),
+            who.other(),
             acted(who, Act::Raise, owed + stakes.bet, hand),
         );
     }
@@ -363,7 +365,7 @@ fn checked<F: Follow + Copy>(
         k,
         stakes,
         raises,
-        other(who),
+        who.other(),
         acted(who, Act::Bet, stakes.bet, hand),
     );
     out[at] = Node {
@@ -398,7 +400,7 @@ fn round<F: Follow + Copy>(
         at + 1,
         stakes,
         raises,
-        other(who),
+        who.other(),
         acted(who, Act::Check, 0, hand),
     );
     k = answers(
@@ -407,7 +409,7 @@ fn round<F: Follow + Copy>(
         k,
         stakes,
         raises,
-        other(who),
+        who.other(),
         acted(who, Act::Bet, stakes.bet, hand),
     );
     out[at] = Node {
@@ -608,7 +610,7 @@ fn seated(ante: u8, house: u8, guest: u8) -> Hand
     requires { ante ≤ 10 }
     ensures { (result ≡ sits ante house guest) × (Fair 100 result) }
 {
-    let none = Line { checks: 0, bets: 0 };
+    let none = Line::default();
     Hand {
         house,
         guest,
@@ -831,8 +833,8 @@ fn collect(nodes: &[Node], who: Player, sights: &mut [Sight], table: &mut [u32])
     ensures table { Tabled (length table.old) table.new (noted [] (seen_in who nodes.now)) }
 {
     let mut n = 0;
-    for i in 0..nodes.len() {
-        if let Some(z) = seen_at(who, nodes[i].place) {
+    for node in nodes {
+        if let Some(z) = seen_at(who, node.place) {
             let k = slot(z);
             if table[k] == 0 {
                 sights[n] = z;
@@ -862,13 +864,8 @@ fn number(nodes: &mut [Node], house: &[u32], guest: &[u32])
     requires { (i : ℕ) → i < length nodes.old → Slotted house.now guest.now (node_at nodes.old i).place }
     ensures { nodes.new ≡ map (tabled_node house.now guest.now) nodes.old }
 {
-    for i in 0..nodes.len() {
-        let node = nodes[i];
-        nodes[i] = Node {
-            place: numbered(node.place, house, guest),
-            share: node.share,
-            size: node.size,
-        };
+    for node in nodes.iter_mut() {
+        node.place = numbered(node.place, house, guest);
     }
 }
 
@@ -985,25 +982,13 @@ fn sight_count(sheet: Sheet) -> u32
     ranks * (raises + 2) * (1 + second)
 }
 
-// Whether two players are one.
-fn same_player(a: Player, b: Player) -> bool
-    ensures { result ≡ is_same_player a b }
-{
-    match (a, b) {
-        (Player::House, Player::House) => true,
-        (Player::House, Player::Guest) => false,
-        (Player::Guest, Player::House) => false,
-        (Player::Guest, Player::Guest) => true,
-    }
-}
-
 // How many words a hand has that is played from this player's chair.
 fn word_count(sheet: Sheet, who: Player) -> u32
     requires { Sound sheet }
     ensures { result ≡ word_count sheet who }
 {
     let raises = sheet.raises as u32;
-    let turns = if same_player(who, sheet.begins) {
+    let turns = if who == sheet.begins {
         (raises + 4) / 2
     } else {
         (raises + 3) / 2
@@ -1038,7 +1023,7 @@ pub fn measure(sheet: Sheet) -> Sizes
 pub fn at_most(n: u32, most: usize) -> Option<u32>
     ensures { result ≡ at_most n most }
 {
-    if n as usize <= most { Some(n) } else { None }
+    (n as usize <= most).then_some(n)
 }
 
 // The sizes, where places and sights fit their memory.
