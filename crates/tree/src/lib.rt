@@ -165,6 +165,27 @@ enum Act {
 struct Stakes {
     purse: u32,
     bet: u32,
+    ghost purse_small: { purse ≤ 1000 },
+    ghost bet_small: { bet ≤ 10 },
+}
+
+impl Stakes {
+    // What each player has where this one takes all.
+    fn won_by(self, who: Player, hand: Hand) -> Ends
+        requires { Fair 0 hand }
+        ensures { result ≡ won_by_as self.purse who hand }
+    {
+        match who {
+            Player::House => Ends {
+                house: self.purse + hand.paid.guest,
+                guest: self.purse.saturating_sub(hand.paid.guest),
+            },
+            Player::Guest => Ends {
+                house: self.purse.saturating_sub(hand.paid.house),
+                guest: self.purse + hand.paid.house,
+            },
+        }
+    }
 }
 
 // A round's line with one choice more.
@@ -229,23 +250,6 @@ fn due(who: Player, p: Paid) -> u32
     match who {
         Player::House => p.guest.saturating_sub(p.house),
         Player::Guest => p.house.saturating_sub(p.guest),
-    }
-}
-
-// What each player has where this one takes all.
-fn won_by(purse: u32, who: Player, hand: Hand) -> Ends
-    requires { (Fair 0 hand) × (purse ≤ 1000) }
-    ensures { result ≡ won_by_as purse who hand }
-{
-    match who {
-        Player::House => Ends {
-            house: purse + hand.paid.guest,
-            guest: purse.saturating_sub(hand.paid.guest),
-        },
-        Player::Guest => Ends {
-            house: purse.saturating_sub(hand.paid.house),
-            guest: purse + hand.paid.house,
-        },
     }
 }
 
@@ -316,11 +320,10 @@ fn answers<F: Follow + Copy>(
     requires room { at + size (answers_as stakes.purse stakes.bet (F.then next) raises who hand) ≤ length out.old }
     requires small { length out.old ≤ 65536 }
     requires fair { Fair (10 * raises + F.spare) hand }
-    requires stakes { (stakes.purse ≤ 1000) × (stakes.bet ≤ 10) }
     ensures { Written 0 (answers_as stakes.purse stakes.bet (F.then next) raises who hand) at out.old out.new result }
 {
     let owed = due(who, hand.paid);
-    let mut k = over(out, at + 1, 0, won_by(stakes.purse, who.other(), hand));
+    let mut k = over(out, at + 1, 0, stakes.won_by(who.other(), hand));
     k = next.follow(out, k, acted(who, Act::Call, owed, hand));
     if raises > 0 {
         k = answers(
@@ -355,7 +358,6 @@ fn checked<F: Follow + Copy>(
     requires room { at + size (opens_as stakes.purse stakes.bet (F.then next) raises (F.then next) who hand) ≤ length out.old }
     requires small { length out.old ≤ 65536 }
     requires fair { Fair (10 + (10 * raises + F.spare)) hand }
-    requires stakes { (stakes.purse ≤ 1000) × (stakes.bet ≤ 10) }
     ensures { Written 0 (opens_as stakes.purse stakes.bet (F.then next) raises (F.then next) who hand) at out.old out.new result }
 {
     let mut k = next.follow(out, at + 1, acted(who, Act::Check, 0, hand));
@@ -391,7 +393,6 @@ fn round<F: Follow + Copy>(
     requires room { at + size (round_as stakes.purse stakes.bet (F.then next) raises who hand) ≤ length out.old }
     requires small { length out.old ≤ 65536 }
     requires fair { Fair (20 + (10 * raises + F.spare)) hand }
-    requires stakes { (stakes.purse ≤ 1000) × (stakes.bet ≤ 10) }
     ensures { Written share (round_as stakes.purse stakes.bet (F.then next) raises who hand) at out.old out.new result }
 {
     let mut k = checked(
@@ -468,44 +469,48 @@ fn deal<C: Card + Copy>(
 // A showdown: the player who alone has the public card's rank wins, else the higher rank.
 #[derive(Clone, Copy)]
 struct Showdown {
-    purse: u32,
+    stakes: Stakes,
     public: Option<u8>,
 }
 
-// What each player has after a showdown.
-fn settled(purse: u32, public: Option<u8>, hand: Hand) -> Ends
-    requires { (Fair 0 hand) × (purse ≤ 1000) }
-    ensures { result ≡ settled_as purse public hand }
-{
-    if let Some(rank) = public {
-        if hand.house == rank && hand.guest != rank {
-            return won_by(purse, Player::House, hand);
+impl Showdown {
+    // What each player has after it.
+    fn settled(self, hand: Hand) -> Ends
+        requires { Fair 0 hand }
+        ensures { result ≡ settled_as self.stakes.purse self.public hand }
+    {
+        let stakes = self.stakes;
+        if let Some(rank) = self.public {
+            if hand.house == rank && hand.guest != rank {
+                return stakes.won_by(Player::House, hand);
+            }
+            if hand.guest == rank && hand.house != rank {
+                return stakes.won_by(Player::Guest, hand);
+            }
         }
-        if hand.guest == rank && hand.house != rank {
-            return won_by(purse, Player::Guest, hand);
+        if hand.guest < hand.house {
+            return stakes.won_by(Player::House, hand);
         }
-    }
-    if hand.guest < hand.house {
-        return won_by(purse, Player::House, hand);
-    }
-    if hand.house < hand.guest {
-        return won_by(purse, Player::Guest, hand);
-    }
-    Ends {
-        house: purse,
-        guest: purse,
+        if hand.house < hand.guest {
+            return stakes.won_by(Player::Guest, hand);
+        }
+        let purse = stakes.purse;
+        Ends {
+            house: purse,
+            guest: purse,
+        }
     }
 }
 
 impl Follow for Showdown {
-    ghost then = { λ s h. end (settled_as s.purse s.public h) };
+    ghost then = { λ s h. end (settled_as s.stakes.purse s.public h) };
 
     ghost spare = { 0 };
 
-    ghost able = { λ s. s.purse ≤ 1000 };
+    ghost able = { λ s. Unit {0} };
 
     fn follow(self, out: &mut [Node], at: usize, hand: Hand) -> usize {
-        over(out, at, 0, settled(self.purse, self.public, hand))
+        over(out, at, 0, self.settled(hand))
     }
 }
 
@@ -555,14 +560,13 @@ impl Card for PublicCard {
     fn lead(self, out: &mut [Node], at: usize, rank: u8, share: u32) -> usize {
         let sheet = self.sheet;
         let begins = sheet.begins;
-        let purse = purse(sheet);
         let stakes = Stakes {
-            purse,
+            purse: purse(sheet),
             bet: sheet.bets.second as u32,
         };
         round(
             Showdown {
-                purse,
+                stakes,
                 public: Some(rank),
             },
             out,
@@ -653,9 +657,8 @@ impl Card for GuestCard {
         let sheet = self.sheet;
         let deck = drawn(self.deck, rank);
         let hand = seated(sheet.bets.ante, self.house, rank);
-        let purse = purse(sheet);
         let stakes = Stakes {
-            purse,
+            purse: purse(sheet),
             bet: sheet.bets.first as u32,
         };
         if sheet.public {
@@ -673,7 +676,7 @@ impl Card for GuestCard {
             let raises = sheet.raises;
             round(
                 Showdown {
-                    purse,
+                    stakes,
                     public: None,
                 },
                 out,

@@ -50,10 +50,7 @@ answers-k-requires g t c κs within =
             omega (arith, h, es, e3, c.requires.room, c.over-k.ensures.ends, c.over-k.auto.out, c.follow-k.ensures.ends, c.follow-k.auto.out),
             (
               omega (arith, c.requires.small, c.over-k.auto.out, c.follow-k.auto.out),
-              (
-                subst Q (sym e2) (fair_raise k B c.args.who c.args.hand c.requires.stakes.1 (fair_less (10 + k) (10 * c.args.raises + g.F.Follow.spare) c.args.hand (omega arith) c.requires.fair)),
-                c.requires.stakes,
-              ),
+              subst Q (sym e2) (fair_raise k B c.args.who c.args.hand c.args.stakes.bet_small (fair_less (10 + k) (10 * c.args.raises + g.F.Follow.spare) c.args.hand (omega arith) c.requires.fair)),
             ),
           ),
         ),

@@ -21,8 +21,7 @@ answers-k-requires g c =
       able = c.requires.able;
       room = omega (arith, es, eb, c.requires.room, c.follow-k.ensures.ends, c.follow-k.auto.out);
       small = omega (arith, c.requires.small, c.follow-k.auto.out);
-      fair = subst Q (sym c.acted-2.ensures) (fair_open k B Bet c.args.who c.args.hand c.requires.stakes.1 c.requires.fair);
-      stakes = c.requires.stakes;
+      fair = subst Q (sym c.acted-2.ensures) (fair_open k B Bet c.args.who c.args.hand c.args.stakes.bet_small c.requires.fair);
     }
 
 pub returns : goal.returns

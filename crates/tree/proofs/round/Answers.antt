@@ -21,7 +21,6 @@ checked-k-requires g c =
       room = omega (arith, ec, c.requires.room);
       small = c.requires.small;
       fair = subst Q (sym c.acted.ensures) (fair_open k 0 Check c.args.who c.args.hand (omega arith) (fair_less (10 + k) (20 + (10 * X + g.F.Follow.spare)) c.args.hand (omega arith) c.requires.fair));
-      stakes = c.requires.stakes;
     }
 
 pub answers-k-requires : goal.answers-k-requires
@@ -38,8 +37,7 @@ answers-k-requires g c =
       able = c.requires.able;
       room = omega (arith, ec, eb, c.requires.room, c.checked-k.ensures.ends, c.checked-k.auto.out);
       small = omega (arith, c.requires.small, c.checked-k.auto.out);
-      fair = subst Q (sym c.acted-2.ensures) (fair_open k B Bet c.args.who c.args.hand c.requires.stakes.1 (fair_less (10 + k) (20 + (10 * X + g.F.Follow.spare)) c.args.hand (omega arith) c.requires.fair));
-      stakes = c.requires.stakes;
+      fair = subst Q (sym c.acted-2.ensures) (fair_open k B Bet c.args.who c.args.hand c.args.stakes.bet_small (fair_less (10 + k) (20 + (10 * X + g.F.Follow.spare)) c.args.hand (omega arith) c.requires.fair));
     }
 
 pub returns : goal.returns

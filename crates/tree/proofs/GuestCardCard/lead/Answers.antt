@@ -10,5 +10,4 @@ round-requires c =
       room = search rules;
       small = c.requires.small;
       fair = fair_less _ 100 _ (let r = p.raises in omega arith) c.seated-hand.ensures.1;
-      stakes = (c.purse-purse.ensures.1, p.first.most);
     }
