@@ -95,7 +95,3 @@ fair_open k b a w h l f =
     join k (acted_as w a b h)
     (cheap k b w h.paid (afford k b w h.paid l (of_paid (10 + k) h f)) (of_paid k h (fair_less k (10 + k) h (omega arith) f)))
     (quiet k h.history.public a h.history (of_history (10 + k) h f))
-
-pub due_small : (k : ℕ) (w : Player) (h : Hand) → Fair k h → due_of w h.paid ≤ 240
-due_small k House h f = let a = f.guest in omega arith
-due_small k Guest h f = let a = f.house in omega arith

@@ -3,7 +3,6 @@ mod Lay
 mod Fairs
 mod Rounds
 mod Deals
-mod Decks
 mod Counts
 mod Equal
 mod Sees

@@ -1,5 +1,6 @@
 pub mod Rep
 pub mod Compact
+pub mod Cards
 pub mod Flat
 pub mod Seen
 pub mod Slots

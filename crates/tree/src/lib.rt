@@ -2,13 +2,14 @@
 
 #![tactic(auto)]
 
-ghost use Rattle.std.specs.Prelude.{◌≡◌, ℕ, ◌+◌, ◌-◌, ◌*◌, ◌<◌, ◌≤◌, List, [], map, length, take, slice_index};
-ghost use Rattle.rules.specs.Play.{game, count as count_of, other as other_of, purse as purse_of, left as left_of, without};
+ghost use Rattle.std.specs.Prelude.{◌≡◌, ℕ, ◌+◌, ◌-◌, ◌*◌, ◌<◌, ◌≤◌, List, [], map, length, replicate, slice_index};
+ghost use Rattle.rules.specs.Play.{game as game_of, count as count_of, other as other_of, purse as purse_of, left as left_of, without};
 ghost use Rattle.rules.specs.Sound.{Sound};
 ghost use Rattle.tree.specs.declared.Hand.{Hand};
 ghost use Rattle.tree.specs.Compact.{Play, end, size, won_by_as, acted_as, due_of, answers_as, opens_as, round_as, deals_as, line_as, sight_of, settled_as, shows, shown_as, second_as, sits, first_as, game_as};
 ghost use Rattle.tree.specs.Rep.{node_at};
-ghost use Rattle.tree.specs.Flat.{Written, Fair, second_card, guest_card, bet_size, first_size, seat, unnumbered, Noted};
+ghost use Rattle.tree.specs.Cards.{cards_of, guest_deal};
+ghost use Rattle.tree.specs.Flat.{Written, Fair, bet_size, first_size, seat, unnumbered, Noted};
 ghost use Rattle.tree.specs.Seen.{sight_at, seen_in, noted, numbered_node, sights_of};
 ghost use Rattle.tree.specs.Slots.{slot_of, Ranged, Tabled, tabled_place, tabled_node, Slotted, Ready};
 ghost use Rattle.rules.specs.Sights.{is_same_player, sights};
@@ -17,6 +18,9 @@ ghost use Rattle.tree.specs.Told.{told, listed, ended, nth, offers_of};
 ghost use Rattle.tree.specs.Built.{number_of, refused_at, at_most, fitted, limited, admitted, sizes_of, Measured, Memory, Begins, nodes_of};
 ghost use Rattle.rules.specs.declared.Player.TheVariants.{House, Guest};
 
+mod deck;
+
+use deck::Deck;
 use rules::{Ends, Player, Sheet};
 
 // The choices of a round so far: so many checks, then so many bets and raises. A call ends a round and is not counted.
@@ -435,26 +439,18 @@ trait Card {
 }
 
 // A deal, with a tree for each rank that is left.
-fn deal<C: Card + Copy>(
-    card: C,
-    out: &mut [Node],
-    at: usize,
-    share: u32,
-    deck: [u8; 13],
-    ranks: u8,
-) -> usize
-    requires ready { (r : ℕ) → r < ranks → 0 < slice_index deck r → C.ready card r }
-    requires room { at + size (deals_as (take ranks deck) (C.after card)) ≤ length out.old }
+fn deal<C: Card + Copy>(card: C, out: &mut [Node], at: usize, share: u32, deck: Deck) -> usize
+    requires ready { (r : ℕ) → 0 < slice_index (cards_of deck) r → C.ready card r }
+    requires room { at + size (deals_as (cards_of deck) (C.after card)) ≤ length out.old }
     requires small { length out.old ≤ 65536 }
-    requires ranks { ranks ≤ 13 }
-    ensures { Written share (deals_as (take ranks deck) (C.after card)) at out.old out.new result }
+    ensures { Written share (deals_as (cards_of deck) (C.after card)) at out.old out.new result }
 {
     let mut k = at + 1;
     let mut cards: u32 = 0;
-    for r in 0..ranks {
-        let left = deck[r as usize] as u32;
+    for (rank, copies) in deck.cards().iter().enumerate() {
+        let left = *copies as u32;
         if left > 0 {
-            k = card.lead(out, k, r, left);
+            k = card.lead(out, k, rank as u8, left);
             cards += left;
         }
     }
@@ -514,25 +510,55 @@ impl Follow for Showdown {
     }
 }
 
+// The game of a rule sheet within its ranges.
+#[derive(Clone, Copy)]
+struct Game {
+    sheet: Sheet,
+    ghost sound: { Sound sheet },
+}
+
+impl Game {
+    // T: the tokens that each player sits down with.
+    fn purse(self) -> u32
+        ensures value { result ≡ purse_of self.sheet }
+        ensures most { result ≤ 1000 }
+    {
+        let sheet = self.sheet;
+        let x = 1 + sheet.raises as u32;
+        let first = sheet.bets.ante as u32 + sheet.bets.first as u32 * x;
+        if sheet.public {
+            first + sheet.bets.second as u32 * x
+        } else {
+            first
+        }
+    }
+
+    // What is played for in a round with this bet.
+    fn stakes(self, bet: u8) -> Stakes
+        requires { bet ≤ 10 }
+        ensures purse { result.purse ≡ purse_of self.sheet }
+        ensures bet { result.bet ≡ bet }
+    {
+        Stakes {
+            purse: self.purse(),
+            bet: bet as u32,
+        }
+    }
+
+    // The whole deck.
+    fn deck(self) -> Deck
+        ensures { cards_of result ≡ replicate self.sheet.ranks self.sheet.copies }
+    {
+        Deck::full(self.sheet.ranks, self.sheet.copies)
+    }
+}
+
 // A card that is shown to both, with the round that follows.
 #[derive(Clone, Copy)]
 struct PublicCard {
-    sheet: Sheet,
+    game: Game,
     hand: Hand,
-}
-
-// T: the tokens that each player sits down with.
-fn purse(sheet: Sheet) -> u32
-    requires { Sound sheet }
-    ensures { (result ≡ purse_of sheet) × (result ≤ 1000) }
-{
-    let x = 1 + sheet.raises as u32;
-    let first = sheet.bets.ante as u32 + sheet.bets.first as u32 * x;
-    if sheet.public {
-        first + sheet.bets.second as u32 * x
-    } else {
-        first
-    }
+    ghost fair: { Fair 50 hand },
 }
 
 // The hand with the public card shown.
@@ -553,17 +579,14 @@ fn show(hand: Hand, rank: u8) -> Hand
 }
 
 impl Card for PublicCard {
-    ghost after = { λ s r. shown_as s.sheet r s.hand };
+    ghost after = { λ s r. shown_as s.game.sheet r s.hand };
 
-    ghost ready = { λ s r. Sound s.sheet × Fair 50 s.hand };
+    ghost ready = { λ s r. Unit {0} };
 
     fn lead(self, out: &mut [Node], at: usize, rank: u8, share: u32) -> usize {
-        let sheet = self.sheet;
+        let sheet = self.game.sheet;
         let begins = sheet.begins;
-        let stakes = Stakes {
-            purse: purse(sheet),
-            bet: sheet.bets.second as u32,
-        };
+        let stakes = self.game.stakes(sheet.bets.second);
         round(
             Showdown {
                 stakes,
@@ -583,29 +606,23 @@ impl Card for PublicCard {
 // The deal of the public card.
 #[derive(Clone, Copy)]
 struct PublicDeal {
-    sheet: Sheet,
-    deck: [u8; 13],
+    game: Game,
+    deck: Deck,
 }
 
 impl Follow for PublicDeal {
-    ghost then = { λ s h. second_as s.sheet (take s.sheet.ranks s.deck) h };
+    ghost then = { λ s h. second_as s.game.sheet (cards_of s.deck) h };
 
     ghost spare = { 50 };
 
-    ghost able = { λ s. Sound s.sheet };
+    ghost able = { λ s. Unit {0} };
 
     fn follow(self, out: &mut [Node], at: usize, hand: Hand) -> usize {
-        deal(
-            PublicCard {
-                sheet: self.sheet,
-                hand,
-            },
-            out,
-            at,
-            0,
-            self.deck,
-            self.sheet.ranks,
-        )
+        let card = PublicCard {
+            game: self.game,
+            hand,
+        };
+        deal(card, out, at, 0, self.deck)
     }
 }
 
@@ -630,40 +647,28 @@ fn seated(ante: u8, house: u8, guest: u8) -> Hand
     }
 }
 
-// The deck without a card of this rank.
-fn drawn(deck: [u8; 13], rank: u8) -> [u8; 13]
-    requires { (rank < 13) × (0 < slice_index deck rank) }
-    ensures { result ≡ without rank deck }
-{
-    let mut left = deck;
-    left[rank as usize] -= 1;
-    left
-}
-
 // The card of the guest, after the house's.
 #[derive(Clone, Copy)]
 struct GuestCard {
-    sheet: Sheet,
+    game: Game,
     house: u8,
-    deck: [u8; 13],
+    deck: Deck,
 }
 
 impl Card for GuestCard {
-    ghost after = { λ s b. first_as s.sheet (take s.sheet.ranks (without b s.deck)) (sits s.sheet.bets.ante s.house b) };
+    ghost after = { λ s b. first_as s.game.sheet (without b (cards_of s.deck)) (sits s.game.sheet.bets.ante s.house b) };
 
-    ghost ready = { λ s r. Sound s.sheet × ((r < 13) × (0 < slice_index s.deck r)) };
+    ghost ready = { λ s r. 0 < slice_index (cards_of s.deck) r };
 
     fn lead(self, out: &mut [Node], at: usize, rank: u8, share: u32) -> usize {
-        let sheet = self.sheet;
-        let deck = drawn(self.deck, rank);
+        let game = self.game;
+        let sheet = game.sheet;
+        let deck = self.deck.without(rank);
         let hand = seated(sheet.bets.ante, self.house, rank);
-        let stakes = Stakes {
-            purse: purse(sheet),
-            bet: sheet.bets.first as u32,
-        };
+        let stakes = game.stakes(sheet.bets.first);
         if sheet.public {
             round(
-                PublicDeal { sheet, deck },
+                PublicDeal { game, deck },
                 out,
                 at,
                 share,
@@ -694,41 +699,34 @@ impl Card for GuestCard {
 // The card of the house.
 #[derive(Clone, Copy)]
 struct HouseCard {
-    sheet: Sheet,
-    deck: [u8; 13],
+    game: Game,
+    deck: Deck,
 }
 
 impl Card for HouseCard {
-    ghost after = { λ s a. second_card s.sheet s.deck a };
+    ghost after = { λ s a. guest_deal s.game.sheet (without a (cards_of s.deck)) a };
 
-    ghost ready = { λ s r. Sound s.sheet × ((r < 13) × (0 < slice_index s.deck r)) };
+    ghost ready = { λ s r. 0 < slice_index (cards_of s.deck) r };
 
     fn lead(self, out: &mut [Node], at: usize, rank: u8, share: u32) -> usize {
-        let deck = drawn(self.deck, rank);
-        deal(
-            GuestCard {
-                sheet: self.sheet,
-                house: rank,
-                deck,
-            },
-            out,
-            at,
-            share,
+        let deck = self.deck.without(rank);
+        let card = GuestCard {
+            game: self.game,
+            house: rank,
             deck,
-            self.sheet.ranks,
-        )
+        };
+        deal(card, out, at, share, deck)
     }
 }
 
 // The whole tree, its sights not numbered yet.
-fn written(sheet: Sheet, out: &mut [Node]) -> usize
-    requires sound { Sound sheet }
-    requires room { size (game_as sheet) ≤ length out.old }
+fn written(game: Game, out: &mut [Node]) -> usize
+    requires room { size (game_as game.sheet) ≤ length out.old }
     requires small { length out.old ≤ 65536 }
-    ensures { Written 0 (game_as sheet) 0 out.old out.new result }
+    ensures { Written 0 (game_as game.sheet) 0 out.old out.new result }
 {
-    let deck = [sheet.copies; 13];
-    deal(HouseCard { sheet, deck }, out, 0, 0, deck, sheet.ranks)
+    let deck = game.deck();
+    deal(HouseCard { game, deck }, out, 0, 0, deck)
 }
 
 // The places of a round of betting, where so many follow each end without a fold.
@@ -740,60 +738,44 @@ fn betting(raises: u8, follow: u32) -> u32
     2 + follow + 2 * answers
 }
 
-// How many ranks are left.
-fn ranks_left(deck: [u8; 13], ranks: u8) -> u32
-    requires { ranks ≤ 13 }
-    ensures { (result ≡ length (left_of (take ranks deck))) × (result ≤ 13) }
-{
-    let mut n: u32 = 0;
-    for r in 0..ranks {
-        if deck[r as usize] > 0 {
-            n += 1;
+impl Game {
+    // The places from the first round on.
+    fn count_first(self, deck: Deck) -> u32
+        ensures value { result ≡ first_size self.sheet (cards_of deck) }
+        ensures most { result ≤ 6000 }
+    {
+        let raises = self.sheet.raises;
+        let last = betting(raises, 1);
+        if self.sheet.public {
+            betting(raises, 1 + deck.ranks_left() * last)
+        } else {
+            last
         }
     }
-    n
-}
 
-// The places from the first round on.
-fn count_first(sheet: Sheet, deck: [u8; 13]) -> u32
-    requires { Sound sheet }
-    ensures { (result ≡ first_size sheet (take sheet.ranks deck)) × (result ≤ 6000) }
-{
-    if sheet.public {
-        let shown = betting(sheet.raises, 1);
-        betting(sheet.raises, 1 + ranks_left(deck, sheet.ranks) * shown)
-    } else {
-        betting(sheet.raises, 1)
+    // The places from the guest's card on.
+    fn count_guest(self, deck: Deck) -> u32
+        ensures value { (a : ℕ) → result ≡ size (guest_deal self.sheet (cards_of deck) a) }
+        ensures most { result ≤ 80000 }
+    {
+        deck.places(|rank: u8| -> u32
+            requires { 0 < slice_index (cards_of deck) rank }
+            ensures value { result ≡ first_size self.sheet (without rank (cards_of deck)) }
+            ensures most { result ≤ 6000 }
+        { self.count_first(deck.without(rank)) })
     }
-}
 
-// The places from the guest's card on.
-fn count_guest(sheet: Sheet, deck: [u8; 13]) -> u32
-    requires { Sound sheet }
-    ensures { (((a : ℕ) → result ≡ size (guest_card sheet deck a))) × (result ≤ 80000) }
-{
-    let mut n: u32 = 1;
-    for b in 0..sheet.ranks {
-        if deck[b as usize] > 0 {
-            n += count_first(sheet, drawn(deck, b));
-        }
+    // The places of the whole tree.
+    fn count(self) -> u32
+        ensures { result ≡ size (game_as self.sheet) }
+    {
+        let deck = self.deck();
+        deck.places(|rank: u8| -> u32
+            requires { 0 < slice_index (cards_of deck) rank }
+            ensures value { result ≡ size (guest_deal self.sheet (without rank (cards_of deck)) rank) }
+            ensures most { result ≤ 80000 }
+        { self.count_guest(deck.without(rank)) })
     }
-    n
-}
-
-// The places of the whole tree.
-fn count(sheet: Sheet) -> u32
-    requires { Sound sheet }
-    ensures { result ≡ size (game_as sheet) }
-{
-    let deck = [sheet.copies; 13];
-    let mut n: u32 = 1;
-    for a in 0..sheet.ranks {
-        if deck[a as usize] > 0 {
-            n += count_guest(sheet, drawn(deck, a));
-        }
-    }
-    n
 }
 
 // The sight of this player at a place.
@@ -898,18 +880,17 @@ const SLOTS: usize = 40950;
 const FIRST_SLOTS: usize = 195;
 
 // Writes the tree and its sights into memory of its size.
-fn fill(sheet: Sheet, nodes: &mut [Node], house: &mut [Sight], guest: &mut [Sight])
-    requires sound { Sound sheet }
-    requires exact { length nodes.old ≡ count_of (game sheet) }
+fn fill(game: Game, nodes: &mut [Node], house: &mut [Sight], guest: &mut [Sight])
+    requires exact { length nodes.old ≡ count_of (game_of game.sheet) }
     requires few { length nodes.old ≤ 65536 }
-    requires house { length (sights House (game sheet)) ≤ length house.old }
-    requires guest { length (sights Guest (game sheet)) ≤ length guest.old }
-    ensures nodes { nodes.new ≡ nodes_of sheet }
-    ensures house { Begins (sights_of House (game_as sheet)) house.old house.new }
-    ensures guest { Begins (sights_of Guest (game_as sheet)) guest.old guest.new }
+    requires house { length (sights House (game_of game.sheet)) ≤ length house.old }
+    requires guest { length (sights Guest (game_of game.sheet)) ≤ length guest.old }
+    ensures nodes { nodes.new ≡ nodes_of game.sheet }
+    ensures house { Begins (sights_of House (game_as game.sheet)) house.old house.new }
+    ensures guest { Begins (sights_of Guest (game_as game.sheet)) guest.old guest.new }
 {
-    let _ = written(sheet, nodes);
-    if sheet.public {
+    let _ = written(game, nodes);
+    if game.sheet.public {
         let mut ours = [0u32; SLOTS];
         let mut theirs = [0u32; SLOTS];
         index(nodes, house, guest, &mut ours, &mut theirs);
@@ -969,34 +950,36 @@ impl Refusal {
     }
 }
 
-// How many sights each player has.
-fn sight_count(sheet: Sheet) -> u32
-    requires { Sound sheet }
-    ensures { result ≡ count_of_sights sheet }
-{
-    let ranks = sheet.ranks as u32;
-    let raises = sheet.raises as u32;
-    let shown = if sheet.copies == 1 { ranks - 1 } else { ranks };
-    let second = if sheet.public {
-        (2 * raises + 3) * shown
-    } else {
-        0
-    };
-    ranks * (raises + 2) * (1 + second)
-}
+impl Game {
+    // How many sights each player has.
+    fn sight_count(self) -> u32
+        ensures { result ≡ count_of_sights self.sheet }
+    {
+        let sheet = self.sheet;
+        let ranks = sheet.ranks as u32;
+        let raises = sheet.raises as u32;
+        let shown = if sheet.copies == 1 { ranks - 1 } else { ranks };
+        let second = if sheet.public {
+            (2 * raises + 3) * shown
+        } else {
+            0
+        };
+        ranks * (raises + 2) * (1 + second)
+    }
 
-// How many words a hand has that is played from this player's chair.
-fn word_count(sheet: Sheet, who: Player) -> u32
-    requires { Sound sheet }
-    ensures { result ≡ word_count sheet who }
-{
-    let raises = sheet.raises as u32;
-    let turns = if who == sheet.begins {
-        (raises + 4) / 2
-    } else {
-        (raises + 3) / 2
-    };
-    2 + turns + if sheet.public { 1 + turns } else { 0 }
+    // How many words a hand has that is played from this player's chair.
+    fn word_count(self, who: Player) -> u32
+        ensures { result ≡ word_count self.sheet who }
+    {
+        let sheet = self.sheet;
+        let raises = sheet.raises as u32;
+        let turns = if who == sheet.begins {
+            (raises + 4) / 2
+        } else {
+            (raises + 3) / 2
+        };
+        2 + turns + if sheet.public { 1 + turns } else { 0 }
+    }
 }
 
 // How large the tree of a rule sheet is.
@@ -1005,20 +988,21 @@ pub fn measure(sheet: Sheet) -> Sizes
     ensures value { result ≡ sizes_of sheet }
     ensures tree { Measured sheet result }
 {
-    let sights = sight_count(sheet);
+    let game = Game { sheet };
+    let sights = game.sight_count();
     let house = Chair {
         sights,
-        words: word_count(sheet, Player::House),
+        words: game.word_count(Player::House),
     };
     let guest = Chair {
         sights,
-        words: word_count(sheet, Player::Guest),
+        words: game.word_count(Player::Guest),
     };
     Sizes {
-        places: count(sheet),
+        places: game.count(),
         house,
         guest,
-        table: 2 * purse(sheet),
+        table: 2 * game.purse(),
     }
 }
 
@@ -1076,6 +1060,6 @@ pub fn build(
     ensures tree { Measured sheet (sizes_of sheet) }
 {
     let sizes = admit(measure(sheet), nodes.len(), house.len(), guest.len())?;
-    fill(sheet, &mut nodes[0..sizes.places as usize], house, guest);
+    fill(Game { sheet }, &mut nodes[0..sizes.places as usize], house, guest);
     Ok(sizes)
 }

@@ -4,9 +4,9 @@ use Rattle.tree.proofs.GuestCardCard.lead.Goals as goal
 
 pub round-requires : goal.round-requires
 round-requires c =
-    let p = c.requires.ready.0 in
+    let p = c.args.self.game.sound in
     record {
-      able = p;
+      able = tt;
       room = search rules;
       small = c.requires.small;
       fair = fair_less _ 100 _ (let r = p.raises in omega arith) c.seated-hand.ensures.1;
