@@ -210,72 +210,104 @@ fn lengthened(a: Act, l: Line) -> Line
     }
 }
 
-// The hand after a choice that puts in `k` tokens.
-fn acted(who: Player, a: Act, k: u32, hand: Hand) -> Hand
-    requires { (Fair 0 hand) × (k ≤ 1000) }
-    ensures { result ≡ acted_as who a k hand }
-{
-    let p = hand.paid;
-    let paid = match who {
-        Player::House => Paid {
-            house: p.house + k,
-            guest: p.guest,
-        },
-        Player::Guest => Paid {
-            house: p.house,
-            guest: p.guest + k,
-        },
-    };
-    let h = hand.history;
-    let history = match h.public {
-        None => History {
-            first: lengthened(a, h.first),
-            public: h.public,
-            second: h.second,
-        },
-        Some(_) => History {
-            first: h.first,
-            public: h.public,
-            second: lengthened(a, h.second),
-        },
-    };
-    Hand {
-        house: hand.house,
-        guest: hand.guest,
-        paid,
-        history,
+impl Paid {
+    // What a player has to put in to call.
+    fn due(self, who: Player) -> u32
+        ensures { result ≡ due_of who self }
+    {
+        match who {
+            Player::House => self.guest.saturating_sub(self.house),
+            Player::Guest => self.house.saturating_sub(self.guest),
+        }
     }
 }
 
-// What a player has to put in to call.
-fn due(who: Player, p: Paid) -> u32
-    ensures { result ≡ due_of who p }
-{
-    match who {
-        Player::House => p.guest.saturating_sub(p.house),
-        Player::Guest => p.house.saturating_sub(p.guest),
+impl Hand {
+    // The hand as the betting begins.
+    fn seated(ante: u8, house: u8, guest: u8) -> Hand
+        requires { ante ≤ 10 }
+        ensures value { result ≡ sits ante house guest }
+        ensures fair { Fair 100 result }
+    {
+        Hand {
+            house,
+            guest,
+            paid: Paid {
+                house: ante as u32,
+                guest: ante as u32,
+            },
+            history: History::default(),
+        }
     }
-}
 
-// A place where a player is to choose, its sight not numbered yet.
-fn choice(who: Player, hand: Hand) -> Place
-    ensures { result ≡ seat unnumbered unnumbered who (sight_of who hand) }
-{
-    match who {
-        Player::House => Place::House(
-            Sight {
-                own: hand.house,
-                history: hand.history,
+    // The hand after a choice that puts in `k` tokens.
+    fn acted(self, who: Player, a: Act, k: u32) -> Hand
+        requires fair { Fair 0 self }
+        requires small { k ≤ 1000 }
+        ensures { result ≡ acted_as who a k self }
+    {
+        let p = self.paid;
+        let paid = match who {
+            Player::House => Paid {
+                house: p.house + k,
+                guest: p.guest,
             },
-            0,
-        ),
-        Player::Guest => Place::Guest(
-            Sight {
-                own: hand.guest,
-                history: hand.history,
+            Player::Guest => Paid {
+                house: p.house,
+                guest: p.guest + k,
             },
-            0,
-        ),
+        };
+        let h = self.history;
+        let history = match h.public {
+            None => History {
+                first: lengthened(a, h.first),
+                ..h
+            },
+            Some(_) => History {
+                second: lengthened(a, h.second),
+                ..h
+            },
+        };
+        Hand {
+            paid,
+            history,
+            ..self
+        }
+    }
+
+    // The hand with the public card shown.
+    fn show(self, rank: u8) -> Hand
+        ensures { result ≡ shows rank self }
+    {
+        Hand {
+            history: History {
+                public: Some(rank),
+                ..self.history
+            },
+            ..self
+        }
+    }
+
+    // A place where a player is to choose, its sight not numbered yet.
+    fn choice(self, who: Player) -> Place
+        ensures { result ≡ seat unnumbered unnumbered who (sight_of who self) }
+    {
+        match who {
+            Player::House => Place::House(
+                Sight {
+                    own: self.house,
+                    history: self.history,
+                },
+                0,
+            ),
+            Player::Guest => Place::Guest(
+                Sight {
+                    own: self.guest,
+                    history: self.history,
+                },
+                0,
+            ),
+        }
     }
 }
 
@@ -297,132 +329,109 @@ trait Follow {
     ghost then: { Self → Hand → Play };
 
     // How much more has to fit each number of the hand
-    ghost spare: { ℕ };
-
-    // What has to hold of the follower
-    ghost able: { Self → Type 0 };
+    ghost spare: { Self → ℕ };
 
     fn follow(self, out: &mut [Node], at: usize, hand: Hand) -> usize
-        requires able { able self }
         requires room { at + size (then self hand) ≤ length out.old }
         requires small { length out.old ≤ 65536 }
-        requires fair { Fair spare hand }
+        requires fair { Fair (spare self) hand }
         ensures { Written 0 (then self hand) at out.old out.new result };
 }
 
-// The choices after a bet, where so many raises may still be made.
-fn answers<F: Follow + Copy>(
+// A round of betting: what is played for, how many raises may be made, and what follows.
+#[derive(Clone, Copy)]
+struct Betting<F> {
     next: F,
-    out: &mut [Node],
-    at: usize,
     stakes: Stakes,
     raises: u8,
-    who: Player,
-    hand: Hand,
-) -> usize
-    requires able { F.able next }
-    requires room { at + size (answers_as stakes.purse stakes.bet (F.then next) raises who hand) ≤ length out.old }
-    requires small { length out.old ≤ 65536 }
-    requires fair { Fair (10 * raises + F.spare) hand }
-    ensures { Written 0 (answers_as stakes.purse stakes.bet (F.then next) raises who hand) at out.old out.new result }
-{
-    let owed = due(who, hand.paid);
-    let mut k = over(out, at + 1, 0, stakes.won_by(who.other(), hand));
-    k = next.follow(out, k, acted(who, Act::Call, owed, hand));
-    if raises > 0 {
-        k = answers(
-            next,
-            out,
-            k,
-            stakes,
-            raises - 1,
-            who.other(),
-            acted(who, Act::Raise, owed + stakes.bet, hand),
-        );
+}
+
+impl<F: Follow + Copy> Betting<F> {
+    // The choices after a bet.
+    fn answers(self, out: &mut [Node], at: usize, who: Player, hand: Hand) -> usize
+        requires room { at + size (answers_as self.stakes.purse self.stakes.bet (F.then self.next) self.raises who hand) ≤ length out.old }
+        requires small { length out.old ≤ 65536 }
+        requires fair { Fair (10 * self.raises + F.spare self.next) hand }
+        ensures { Written 0 (answers_as self.stakes.purse self.stakes.bet (F.then self.next) self.raises who hand) at out.old out.new result }
+    {
+        let owed = hand.paid.due(who);
+        let ends = self.stakes.won_by(who.other(), hand);
+        let mut k = over(out, at + 1, 0, ends);
+        k = self.next.follow(out, k, hand.acted(who, Act::Call, owed));
+        if self.raises > 0 {
+            let fewer = Betting {
+                raises: self.raises - 1,
+                ..self
+            };
+            let raised = hand.acted(who, Act::Raise, owed + self.stakes.bet);
+            k = fewer.answers(out, k, who.other(), raised);
+        }
+        out[at] = Node {
+            place: hand.choice(who),
+            share: 0,
+            size: (k - at) as u32,
+        };
+        k
     }
-    out[at] = Node {
-        place: choice(who, hand),
-        share: 0,
-        size: (k - at) as u32,
-    };
-    k
+
+    // The choices where there is nothing to call, with what follows a check.
+    fn opens<C: Follow + Copy>(
+        self,
+        checks: C,
+        out: &mut [Node],
+        at: usize,
+        share: u32,
+        who: Player,
+        hand: Hand,
+    ) -> usize
+        requires room { at + size (opens_as self.stakes.purse self.stakes.bet (F.then self.next) self.raises (C.then checks) who hand) ≤ length out.old }
+        requires small { length out.old ≤ 65536 }
+        requires check { Fair (10 + C.spare checks) hand }
+        requires bet { Fair (10 + (10 * self.raises + F.spare self.next)) hand }
+        ensures { Written share (opens_as self.stakes.purse self.stakes.bet (F.then self.next) self.raises (C.then checks) who hand) at out.old out.new result }
+    {
+        let mut k = checks.follow(out, at + 1, hand.acted(who, Act::Check, 0));
+        let bet = hand.acted(who, Act::Bet, self.stakes.bet);
+        k = self.answers(out, k, who.other(), bet);
+        out[at] = Node {
+            place: hand.choice(who),
+            share,
+            size: (k - at) as u32,
+        };
+        k
+    }
+
+    // The whole round.
+    fn round(self, out: &mut [Node], at: usize, share: u32, who: Player, hand: Hand) -> usize
+        requires room { at + size (round_as self.stakes.purse self.stakes.bet (F.then self.next) self.raises who hand) ≤ length out.old }
+        requires small { length out.old ≤ 65536 }
+        requires fair { Fair (20 + (10 * self.raises + F.spare self.next)) hand }
+        ensures { Written share (round_as self.stakes.purse self.stakes.bet (F.then self.next) self.raises who hand) at out.old out.new result }
+    {
+        let checks = Checked {
+            betting: self,
+            who: who.other(),
+        };
+        self.opens(checks, out, at, share, who, hand)
+    }
 }
 
-// The choices after a check of the other player.
-fn checked<F: Follow + Copy>(
-    next: F,
-    out: &mut [Node],
-    at: usize,
-    stakes: Stakes,
-    raises: u8,
+// After a check: the choices of the other player, whose check ends the round.
+#[derive(Clone, Copy)]
+struct Checked<F> {
+    betting: Betting<F>,
     who: Player,
-    hand: Hand,
-) -> usize
-    requires able { F.able next }
-    requires room { at + size (opens_as stakes.purse stakes.bet (F.then next) raises (F.then next) who hand) ≤ length out.old }
-    requires small { length out.old ≤ 65536 }
-    requires fair { Fair (10 + (10 * raises + F.spare)) hand }
-    ensures { Written 0 (opens_as stakes.purse stakes.bet (F.then next) raises (F.then next) who hand) at out.old out.new result }
-{
-    let mut k = next.follow(out, at + 1, acted(who, Act::Check, 0, hand));
-    k = answers(
-        next,
-        out,
-        k,
-        stakes,
-        raises,
-        who.other(),
-        acted(who, Act::Bet, stakes.bet, hand),
-    );
-    out[at] = Node {
-        place: choice(who, hand),
-        share: 0,
-        size: (k - at) as u32,
-    };
-    k
 }
 
-// A round of betting.
-fn round<F: Follow + Copy>(
-    next: F,
-    out: &mut [Node],
-    at: usize,
-    share: u32,
-    stakes: Stakes,
-    raises: u8,
-    who: Player,
-    hand: Hand,
-) -> usize
-    requires able { F.able next }
-    requires room { at + size (round_as stakes.purse stakes.bet (F.then next) raises who hand) ≤ length out.old }
-    requires small { length out.old ≤ 65536 }
-    requires fair { Fair (20 + (10 * raises + F.spare)) hand }
-    ensures { Written share (round_as stakes.purse stakes.bet (F.then next) raises who hand) at out.old out.new result }
-{
-    let mut k = checked(
-        next,
-        out,
-        at + 1,
-        stakes,
-        raises,
-        who.other(),
-        acted(who, Act::Check, 0, hand),
-    );
-    k = answers(
-        next,
-        out,
-        k,
-        stakes,
-        raises,
-        who.other(),
-        acted(who, Act::Bet, stakes.bet, hand),
-    );
-    out[at] = Node {
-        place: choice(who, hand),
-        share,
-        size: (k - at) as u32,
-    };
-    k
+impl<F: Follow + Copy> Follow for Checked<F> {
+    ghost then = { λ s h. opens_as s.betting.stakes.purse s.betting.stakes.bet (F.then s.betting.next) s.betting.raises (F.then s.betting.next) s.who h };
+
+    ghost spare = { λ s. 10 + (10 * s.betting.raises + F.spare s.betting.next) };
+
+    fn follow(self, out: &mut [Node], at: usize, hand: Hand) -> usize {
+        let betting = self.betting;
+        betting.opens(betting.next, out, at, 0, self.who, hand)
+    }
 }
 
 // What a dealt card leads to.
@@ -501,9 +510,7 @@ impl Showdown {
 impl Follow for Showdown {
     ghost then = { λ s h. end (settled_as s.stakes.purse s.public h) };
 
-    ghost spare = { 0 };
-
-    ghost able = { λ s. Unit {0} };
+    ghost spare = { λ s. 0 };
 
     fn follow(self, out: &mut [Node], at: usize, hand: Hand) -> usize {
         over(out, at, 0, self.settled(hand))
@@ -561,23 +568,6 @@ struct PublicCard {
     ghost fair: { Fair 50 hand },
 }
 
-// The hand with the public card shown.
-fn show(hand: Hand, rank: u8) -> Hand
-    ensures { result ≡ shows rank hand }
-{
-    let h = hand.history;
-    Hand {
-        house: hand.house,
-        guest: hand.guest,
-        paid: hand.paid,
-        history: History {
-            first: h.first,
-            public: Some(rank),
-            second: h.second,
-        },
-    }
-}
-
 impl Card for PublicCard {
     ghost after = { λ s r. shown_as s.game.sheet r s.hand };
 
@@ -587,19 +577,16 @@ impl Card for PublicCard {
         let sheet = self.game.sheet;
         let begins = sheet.begins;
         let stakes = self.game.stakes(sheet.bets.second);
-        round(
-            Showdown {
-                stakes,
-                public: Some(rank),
-            },
-            out,
-            at,
-            share,
+        let next = Showdown {
             stakes,
-            sheet.raises,
-            begins,
-            show(self.hand, rank),
-        )
+            public: Some(rank),
+        };
+        let betting = Betting {
+            next,
+            stakes,
+            raises: sheet.raises,
+        };
+        betting.round(out, at, share, begins, self.hand.show(rank))
     }
 }
 
@@ -613,9 +600,7 @@ struct PublicDeal {
 impl Follow for PublicDeal {
     ghost then = { λ s h. second_as s.game.sheet (cards_of s.deck) h };
 
-    ghost spare = { 50 };
-
-    ghost able = { λ s. Unit {0} };
+    ghost spare = { λ s. 50 };
 
     fn follow(self, out: &mut [Node], at: usize, hand: Hand) -> usize {
         let card = PublicCard {
@@ -623,27 +608,6 @@ impl Follow for PublicDeal {
             hand,
         };
         deal(card, out, at, 0, self.deck)
-    }
-}
-
-// A hand as the betting begins.
-fn seated(ante: u8, house: u8, guest: u8) -> Hand
-    requires { ante ≤ 10 }
-    ensures { (result ≡ sits ante house guest) × (Fair 100 result) }
-{
-    let none = Line::default();
-    Hand {
-        house,
-        guest,
-        paid: Paid {
-            house: ante as u32,
-            guest: ante as u32,
-        },
-        history: History {
-            first: none,
-            public: None,
-            second: none,
-        },
     }
 }
 
@@ -664,34 +628,28 @@ impl Card for GuestCard {
         let game = self.game;
         let sheet = game.sheet;
         let deck = self.deck.without(rank);
-        let hand = seated(sheet.bets.ante, self.house, rank);
+        let hand = Hand::seated(sheet.bets.ante, self.house, rank);
         let stakes = game.stakes(sheet.bets.first);
         if sheet.public {
-            round(
-                PublicDeal { game, deck },
-                out,
-                at,
-                share,
+            let next = PublicDeal { game, deck };
+            let betting = Betting {
+                next,
                 stakes,
-                sheet.raises,
-                sheet.begins,
-                hand,
-            )
+                raises: sheet.raises,
+            };
+            betting.round(out, at, share, sheet.begins, hand)
         } else {
             let raises = sheet.raises;
-            round(
-                Showdown {
-                    stakes,
-                    public: None,
-                },
-                out,
-                at,
-                share,
+            let next = Showdown {
+                stakes,
+                public: None,
+            };
+            let betting = Betting {
+                next,
                 stakes,
                 raises,
-                sheet.begins,
-                hand,
-            )
+            };
+            betting.round(out, at, share, sheet.begins, hand)
         }
     }
 }
@@ -730,7 +688,7 @@ fn written(game: Game, out: &mut [Node]) -> usize
 }
 
 // The places of a round of betting, where so many follow each end without a fold.
-fn betting(raises: u8, follow: u32) -> u32
+fn round_places(raises: u8, follow: u32) -> u32
     requires { (raises ≤ 3) × (follow ≤ 1000) }
     ensures { (result ≡ bet_size raises follow) × (result ≤ 10 + 9 * follow + 8) }
 {
@@ -745,9 +703,9 @@ impl Game {
         ensures most { result ≤ 6000 }
     {
         let raises = self.sheet.raises;
-        let last = betting(raises, 1);
+        let last = round_places(raises, 1);
         if self.sheet.public {
-            betting(raises, 1 + deck.ranks_left() * last)
+            round_places(raises, 1 + deck.ranks_left() * last)
         } else {
             last
         }
@@ -758,11 +716,13 @@ impl Game {
         ensures value { (a : ℕ) → result ≡ size (guest_deal self.sheet (cards_of deck) a) }
         ensures most { result ≤ 80000 }
     {
-        deck.places(|rank: u8| -> u32
-            requires { 0 < slice_index (cards_of deck) rank }
-            ensures value { result ≡ first_size self.sheet (without rank (cards_of deck)) }
-            ensures most { result ≤ 6000 }
-        { self.count_first(deck.without(rank)) })
+        deck.places(
+            |rank: u8| -> u32
+                requires { 0 < slice_index (cards_of deck) rank }
+                ensures value { result ≡ first_size self.sheet (without rank (cards_of deck)) }
+                ensures most { result ≤ 6000 }
+            { self.count_first(deck.without(rank)) },
+        )
     }
 
     // The places of the whole tree.
@@ -770,11 +730,13 @@ impl Game {
         ensures { result ≡ size (game_as self.sheet) }
     {
         let deck = self.deck();
-        deck.places(|rank: u8| -> u32
-            requires { 0 < slice_index (cards_of deck) rank }
-            ensures value { result ≡ size (guest_deal self.sheet (without rank (cards_of deck)) rank) }
-            ensures most { result ≤ 80000 }
-        { self.count_guest(deck.without(rank)) })
+        deck.places(
+            |rank: u8| -> u32
+                requires { 0 < slice_index (cards_of deck) rank }
+                ensures value { result ≡ size (guest_deal self.sheet (without rank (cards_of deck)) rank) }
+                ensures most { result ≤ 80000 }
+            { self.count_guest(deck.without(rank)) },
+        )
     }
 }
 
@@ -1060,6 +1022,11 @@ pub fn build(
     ensures tree { Measured sheet (sizes_of sheet) }
 {
     let sizes = admit(measure(sheet), nodes.len(), house.len(), guest.len())?;
-    fill(Game { sheet }, &mut nodes[0..sizes.places as usize], house, guest);
+    fill(
+        Game { sheet },
+        &mut nodes[0..sizes.places as usize],
+        house,
+        guest,
+    );
     Ok(sizes)
 }

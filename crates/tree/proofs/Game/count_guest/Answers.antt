@@ -11,7 +11,7 @@ returns-clause-value c =
     let s = c.args.self.sheet in
     let cards = cards_of c.args.deck in
     λ a. c.places.ensures.value (λ b. first_as s (without b cards) (sits s.bets.ante a b))
-        (λ r n p q. let e : n ≡ first_size s (without r cards) = search rules in e ∙ sym (first_size_is s (without r cards) (sits s.bets.ante a r)))
+    (λ r n p q. let e : n ≡ first_size s (without r cards) = search rules in e ∙ sym (first_size_is s (without r cards) (sits s.bets.ante a r)))
 
 pub returns-clause-most : goal.returns-clause-most
 returns-clause-most c =

@@ -6,8 +6,7 @@ pub round-requires : goal.round-requires
 round-requires c =
     let p = c.args.self.game.sound in
     record {
-      able = tt;
       room = search rules;
       small = c.requires.small;
-      fair = fair_less _ 100 _ (let r = p.raises in omega arith) c.seated-hand.ensures.1;
+      fair = fair_less _ 100 _ (let r = p.raises in omega arith) c.seated-hand.ensures.fair;
     }

@@ -32,5 +32,5 @@ loop-rank-preserved g c =
 pub returns-clause-most : goal.returns-clause-most
 returns-clause-most g c =
     λ most f.
-        let rank : c.loop-rank.rank ≤ 13 = omega (arith, c.loop-rank.auto.rank-end, c.cards-left-items.ensures.few) in
-        omega (arith, c.loop-rank.invariant.1 most f, mul-le-mul_left most rank)
+    let rank : c.loop-rank.rank ≤ 13 = omega (arith, c.loop-rank.auto.rank-end, c.cards-left-items.ensures.few) in
+    omega (arith, c.loop-rank.invariant.1 most f, mul-le-mul_left most rank)
