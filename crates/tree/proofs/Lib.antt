@@ -1,5 +1,6 @@
 mod Put
 mod Lay
+mod Writers
 mod Fairs
 mod Rounds
 mod Deals

@@ -9,6 +9,7 @@ ghost use Rattle.tree.specs.declared.Hand.{Hand};
 ghost use Rattle.tree.specs.Compact.{Play, end, size, won_by_as, acted_as, due_of, answers_as, opens_as, round_as, deals_as, line_as, sight_of, settled_as, shows, shown_as, second_as, sits, first_as, game_as};
 ghost use Rattle.tree.specs.Rep.{node_at};
 ghost use Rattle.tree.specs.Cards.{cards_of, guest_deal};
+ghost use Rattle.tree.specs.Writes.{HasRoom, Wrote};
 ghost use Rattle.tree.specs.Flat.{Written, Fair, bet_size, first_size, seat, unnumbered, Noted};
 ghost use Rattle.tree.specs.Seen.{sight_at, seen_in, noted, numbered_node, sights_of};
 ghost use Rattle.tree.specs.Slots.{slot_of, Ranged, Tabled, tabled_place, tabled_node, Slotted, Ready};
@@ -19,9 +20,11 @@ ghost use Rattle.tree.specs.Built.{number_of, refused_at, at_most, fitted, limit
 ghost use Rattle.rules.specs.declared.Player.TheVariants.{House, Guest};
 
 mod deck;
+mod writer;
 
 use deck::Deck;
 use rules::{Ends, Player, Sheet};
+use writer::Writer;
 
 // The choices of a round so far: so many checks, then so many bets and raises. A call ends a round and is not counted.
 #[derive(Clone, Copy, Default)]
@@ -311,19 +314,6 @@ impl Hand {
     }
 }
 
-// Writes an end, with what each player has; gives the index after it.
-fn over(out: &mut [Node], at: usize, share: u32, ends: Ends) -> usize
-    requires { (at < length out.old) × (length out.old ≤ 65536) }
-    ensures { Written share (end ends) at out.old out.new result }
-{
-    out[at] = Node {
-        place: Place::Over(ends),
-        share,
-        size: 1,
-    };
-    at + 1
-}
-
 // What follows a round of betting.
 trait Follow {
     ghost then: { Self → Hand → Play };
@@ -331,11 +321,10 @@ trait Follow {
     // How much more has to fit each number of the hand
     ghost spare: { Self → ℕ };
 
-    fn follow(self, out: &mut [Node], at: usize, hand: Hand) -> usize
-        requires room { at + size (then self hand) ≤ length out.old }
-        requires small { length out.old ≤ 65536 }
+    fn follow(self, out: &mut Writer<'_>, hand: Hand)
+        requires room { HasRoom out.old (then self hand) }
         requires fair { Fair (spare self) hand }
-        ensures { Written 0 (then self hand) at out.old out.new result };
+        ensures { Wrote 0 (then self hand) out.old out.new };
 }
 
 // A round of betting: what is played for, how many raises may be made, and what follows.
@@ -348,71 +337,59 @@ struct Betting<F> {
 
 impl<F: Follow + Copy> Betting<F> {
     // The choices after a bet.
-    fn answers(self, out: &mut [Node], at: usize, who: Player, hand: Hand) -> usize
-        requires room { at + size (answers_as self.stakes.purse self.stakes.bet (F.then self.next) self.raises who hand) ≤ length out.old }
-        requires small { length out.old ≤ 65536 }
+    fn answers(self, out: &mut Writer<'_>, who: Player, hand: Hand)
+        requires room { HasRoom out.old (answers_as self.stakes.purse self.stakes.bet (F.then self.next) self.raises who hand) }
         requires fair { Fair (10 * self.raises + F.spare self.next) hand }
-        ensures { Written 0 (answers_as self.stakes.purse self.stakes.bet (F.then self.next) self.raises who hand) at out.old out.new result }
+        ensures { Wrote 0 (answers_as self.stakes.purse self.stakes.bet (F.then self.next) self.raises who hand) out.old out.new }
     {
+        let at = out.skip();
         let owed = hand.paid.due(who);
         let ends = self.stakes.won_by(who.other(), hand);
-        let mut k = over(out, at + 1, 0, ends);
-        k = self.next.follow(out, k, hand.acted(who, Act::Call, owed));
+        out.over(0, ends);
+        self.next.follow(out, hand.acted(who, Act::Call, owed));
         if self.raises > 0 {
             let fewer = Betting {
                 raises: self.raises - 1,
                 ..self
             };
             let raised = hand.acted(who, Act::Raise, owed + self.stakes.bet);
-            k = fewer.answers(out, k, who.other(), raised);
+            fewer.answers(out, who.other(), raised);
         }
-        out[at] = Node {
-            place: hand.choice(who),
-            share: 0,
-            size: (k - at) as u32,
-        };
-        k
+        out.close(at, hand.choice(who), 0);
     }
 
     // The choices where there is nothing to call, with what follows a check.
     fn opens<C: Follow + Copy>(
         self,
         checks: C,
-        out: &mut [Node],
-        at: usize,
+        out: &mut Writer<'_>,
         share: u32,
         who: Player,
         hand: Hand,
-    ) -> usize
-        requires room { at + size (opens_as self.stakes.purse self.stakes.bet (F.then self.next) self.raises (C.then checks) who hand) ≤ length out.old }
-        requires small { length out.old ≤ 65536 }
+    )
+        requires room { HasRoom out.old (opens_as self.stakes.purse self.stakes.bet (F.then self.next) self.raises (C.then checks) who hand) }
         requires check { Fair (10 + C.spare checks) hand }
         requires bet { Fair (10 + (10 * self.raises + F.spare self.next)) hand }
-        ensures { Written share (opens_as self.stakes.purse self.stakes.bet (F.then self.next) self.raises (C.then checks) who hand) at out.old out.new result }
+        ensures { Wrote share (opens_as self.stakes.purse self.stakes.bet (F.then self.next) self.raises (C.then checks) who hand) out.old out.new }
     {
-        let mut k = checks.follow(out, at + 1, hand.acted(who, Act::Check, 0));
+        let at = out.skip();
+        checks.follow(out, hand.acted(who, Act::Check, 0));
         let bet = hand.acted(who, Act::Bet, self.stakes.bet);
-        k = self.answers(out, k, who.other(), bet);
-        out[at] = Node {
-            place: hand.choice(who),
-            share,
-            size: (k - at) as u32,
-        };
-        k
+        self.answers(out, who.other(), bet);
+        out.close(at, hand.choice(who), share);
     }
 
     // The whole round.
-    fn round(self, out: &mut [Node], at: usize, share: u32, who: Player, hand: Hand) -> usize
-        requires room { at + size (round_as self.stakes.purse self.stakes.bet (F.then self.next) self.raises who hand) ≤ length out.old }
-        requires small { length out.old ≤ 65536 }
+    fn round(self, out: &mut Writer<'_>, share: u32, who: Player, hand: Hand)
+        requires room { HasRoom out.old (round_as self.stakes.purse self.stakes.bet (F.then self.next) self.raises who hand) }
         requires fair { Fair (20 + (10 * self.raises + F.spare self.next)) hand }
-        ensures { Written share (round_as self.stakes.purse self.stakes.bet (F.then self.next) self.raises who hand) at out.old out.new result }
+        ensures { Wrote share (round_as self.stakes.purse self.stakes.bet (F.then self.next) self.raises who hand) out.old out.new }
     {
         let checks = Checked {
             betting: self,
             who: who.other(),
         };
-        self.opens(checks, out, at, share, who, hand)
+        self.opens(checks, out, share, who, hand);
     }
 }
 
@@ -428,9 +405,9 @@ impl<F: Follow + Copy> Follow for Checked<F> {
 
     ghost spare = { λ s. 10 + (10 * s.betting.raises + F.spare s.betting.next) };
 
-    fn follow(self, out: &mut [Node], at: usize, hand: Hand) -> usize {
+    fn follow(self, out: &mut Writer<'_>, hand: Hand) {
         let betting = self.betting;
-        betting.opens(betting.next, out, at, 0, self.who, hand)
+        betting.opens(betting.next, out, 0, self.who, hand);
     }
 }
 
@@ -440,35 +417,28 @@ trait Card {
 
     ghost ready: { Self → ℕ → Type 0 };
 
-    fn lead(self, out: &mut [Node], at: usize, rank: u8, share: u32) -> usize
+    fn lead(self, out: &mut Writer<'_>, rank: u8, share: u32)
         requires ready { ready self rank }
-        requires room { at + size (after self rank) ≤ length out.old }
-        requires small { length out.old ≤ 65536 }
-        ensures { Written share (after self rank) at out.old out.new result };
+        requires room { HasRoom out.old (after self rank) }
+        ensures { Wrote share (after self rank) out.old out.new };
 }
 
 // A deal, with a tree for each rank that is left.
-fn deal<C: Card + Copy>(card: C, out: &mut [Node], at: usize, share: u32, deck: Deck) -> usize
+fn deal<C: Card + Copy>(card: C, out: &mut Writer<'_>, share: u32, deck: Deck)
     requires ready { (r : ℕ) → 0 < slice_index (cards_of deck) r → C.ready card r }
-    requires room { at + size (deals_as (cards_of deck) (C.after card)) ≤ length out.old }
-    requires small { length out.old ≤ 65536 }
-    ensures { Written share (deals_as (cards_of deck) (C.after card)) at out.old out.new result }
+    requires room { HasRoom out.old (deals_as (cards_of deck) (C.after card)) }
+    ensures { Wrote share (deals_as (cards_of deck) (C.after card)) out.old out.new }
 {
-    let mut k = at + 1;
+    let at = out.skip();
     let mut cards: u32 = 0;
     for (rank, copies) in deck.cards().iter().enumerate() {
         let left = *copies as u32;
         if left > 0 {
-            k = card.lead(out, k, rank as u8, left);
+            card.lead(out, rank as u8, left);
             cards += left;
         }
     }
-    out[at] = Node {
-        place: Place::Deal(cards),
-        share,
-        size: (k - at) as u32,
-    };
-    k
+    out.close(at, Place::Deal(cards), share);
 }
 
 // A showdown: the player who alone has the public card's rank wins, else the higher rank.
@@ -512,8 +482,8 @@ impl Follow for Showdown {
 
     ghost spare = { λ s. 0 };
 
-    fn follow(self, out: &mut [Node], at: usize, hand: Hand) -> usize {
-        over(out, at, 0, self.settled(hand))
+    fn follow(self, out: &mut Writer<'_>, hand: Hand) {
+        out.over(0, self.settled(hand));
     }
 }
 
@@ -573,7 +543,7 @@ impl Card for PublicCard {
 
     ghost ready = { λ s r. Unit {0} };
 
-    fn lead(self, out: &mut [Node], at: usize, rank: u8, share: u32) -> usize {
+    fn lead(self, out: &mut Writer<'_>, rank: u8, share: u32) {
         let sheet = self.game.sheet;
         let begins = sheet.begins;
         let stakes = self.game.stakes(sheet.bets.second);
@@ -586,7 +556,7 @@ impl Card for PublicCard {
             stakes,
             raises: sheet.raises,
         };
-        betting.round(out, at, share, begins, self.hand.show(rank))
+        betting.round(out, share, begins, self.hand.show(rank));
     }
 }
 
@@ -602,12 +572,12 @@ impl Follow for PublicDeal {
 
     ghost spare = { λ s. 50 };
 
-    fn follow(self, out: &mut [Node], at: usize, hand: Hand) -> usize {
+    fn follow(self, out: &mut Writer<'_>, hand: Hand) {
         let card = PublicCard {
             game: self.game,
             hand,
         };
-        deal(card, out, at, 0, self.deck)
+        deal(card, out, 0, self.deck);
     }
 }
 
@@ -624,7 +594,7 @@ impl Card for GuestCard {
 
     ghost ready = { λ s r. 0 < slice_index (cards_of s.deck) r };
 
-    fn lead(self, out: &mut [Node], at: usize, rank: u8, share: u32) -> usize {
+    fn lead(self, out: &mut Writer<'_>, rank: u8, share: u32) {
         let game = self.game;
         let sheet = game.sheet;
         let deck = self.deck.without(rank);
@@ -637,7 +607,7 @@ impl Card for GuestCard {
                 stakes,
                 raises: sheet.raises,
             };
-            betting.round(out, at, share, sheet.begins, hand)
+            betting.round(out, share, sheet.begins, hand);
         } else {
             let raises = sheet.raises;
             let next = Showdown {
@@ -649,7 +619,7 @@ impl Card for GuestCard {
                 stakes,
                 raises,
             };
-            betting.round(out, at, share, sheet.begins, hand)
+            betting.round(out, share, sheet.begins, hand);
         }
     }
 }
@@ -666,25 +636,26 @@ impl Card for HouseCard {
 
     ghost ready = { λ s r. 0 < slice_index (cards_of s.deck) r };
 
-    fn lead(self, out: &mut [Node], at: usize, rank: u8, share: u32) -> usize {
+    fn lead(self, out: &mut Writer<'_>, rank: u8, share: u32) {
         let deck = self.deck.without(rank);
         let card = GuestCard {
             game: self.game,
             house: rank,
             deck,
         };
-        deal(card, out, at, share, deck)
+        deal(card, out, share, deck);
     }
 }
 
 // The whole tree, its sights not numbered yet.
-fn written(game: Game, out: &mut [Node]) -> usize
-    requires room { size (game_as game.sheet) ≤ length out.old }
-    requires small { length out.old ≤ 65536 }
-    ensures { Written 0 (game_as game.sheet) 0 out.old out.new result }
+fn written(game: Game, nodes: &mut [Node])
+    requires room { size (game_as game.sheet) ≤ length nodes.old }
+    requires small { length nodes.old ≤ 65536 }
+    ensures { Written 0 (game_as game.sheet) 0 nodes.old nodes.new (size (game_as game.sheet)) }
 {
     let deck = game.deck();
-    deal(HouseCard { game, deck }, out, 0, 0, deck)
+    let mut out = Writer::new(nodes);
+    deal(HouseCard { game, deck }, &mut out, 0, deck);
 }
 
 // The places of a round of betting, where so many follow each end without a fold.
@@ -851,7 +822,7 @@ fn fill(game: Game, nodes: &mut [Node], house: &mut [Sight], guest: &mut [Sight]
     ensures house { Begins (sights_of House (game_as game.sheet)) house.old house.new }
     ensures guest { Begins (sights_of Guest (game_as game.sheet)) guest.old guest.new }
 {
-    let _ = written(game, nodes);
+    written(game, nodes);
     if game.sheet.public {
         let mut ours = [0u32; SLOTS];
         let mut theirs = [0u32; SLOTS];

@@ -15,9 +15,9 @@ index-requires c =
     let e = whole s h _ _ _ c.requires.exact c.written.ensures in
     let t = inl (c.if-game.true, length-replicate {A = ℕ} 40950 0) in
     record {
-      few = omega (arith, c.requires.few, c.written.auto.out);
-      ours = ready s h House c.written.new.out (length c.args.house.now) (replicate 40950 0) e c.requires.house t (all_zero 40950);
-      theirs = ready s h Guest c.written.new.out (length c.args.guest.now) (replicate 40950 0) e c.requires.guest t (all_zero 40950);
+      few = omega (arith, c.requires.few, c.written.auto.nodes);
+      ours = ready s h House c.written.new.nodes (length c.args.house.now) (replicate 40950 0) e c.requires.house t (all_zero 40950);
+      theirs = ready s h Guest c.written.new.nodes (length c.args.guest.now) (replicate 40950 0) e c.requires.guest t (all_zero 40950);
     }
 
 pub index-requires-else-game : goal.index-requires-else-game
@@ -27,9 +27,9 @@ index-requires-else-game c =
     let e = whole s h _ _ _ c.requires.exact c.written.ensures in
     let t = inr (c.if-game.false, length-replicate {A = ℕ} 195 0) in
     record {
-      few = omega (arith, c.requires.few, c.written.auto.out);
-      ours = ready s h House c.written.new.out (length c.args.house.now) (replicate 195 0) e c.requires.house t (all_zero 195);
-      theirs = ready s h Guest c.written.new.out (length c.args.guest.now) (replicate 195 0) e c.requires.guest t (all_zero 195);
+      few = omega (arith, c.requires.few, c.written.auto.nodes);
+      ours = ready s h House c.written.new.nodes (length c.args.house.now) (replicate 195 0) e c.requires.house t (all_zero 195);
+      theirs = ready s h Guest c.written.new.nodes (length c.args.guest.now) (replicate 195 0) e c.requires.guest t (all_zero 195);
     }
 
 pub returns-then-game : goal.returns-then-game
@@ -38,9 +38,9 @@ returns-then-game c =
     let h = c.args.game.sound in
     let e = whole s h _ _ _ c.requires.exact c.written.ensures in
     record {
-      nodes = filled s h c.written.new.out _ e c.index.ensures.nodes;
-      house = begun s h House c.written.new.out _ _ e c.index.ensures.house;
-      guest = begun s h Guest c.written.new.out _ _ e c.index.ensures.guest;
+      nodes = filled s h c.written.new.nodes _ e c.index.ensures.nodes;
+      house = begun s h House c.written.new.nodes _ _ e c.index.ensures.house;
+      guest = begun s h Guest c.written.new.nodes _ _ e c.index.ensures.guest;
     }
 
 pub returns-else-game : goal.returns-else-game
@@ -49,7 +49,7 @@ returns-else-game c =
     let h = c.args.game.sound in
     let e = whole s h _ _ _ c.requires.exact c.written.ensures in
     record {
-      nodes = filled s h c.written.new.out _ e c.index-else-game.ensures.nodes;
-      house = begun s h House c.written.new.out _ _ e c.index-else-game.ensures.house;
-      guest = begun s h Guest c.written.new.out _ _ e c.index-else-game.ensures.guest;
+      nodes = filled s h c.written.new.nodes _ e c.index-else-game.ensures.nodes;
+      house = begun s h House c.written.new.nodes _ _ e c.index-else-game.ensures.house;
+      guest = begun s h Guest c.written.new.nodes _ _ e c.index-else-game.ensures.guest;
     }

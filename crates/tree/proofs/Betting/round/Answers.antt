@@ -12,7 +12,6 @@ opens-requires g c =
     let e = ap (λ o. size (opened (λ h. opened then o h) c.args.who c.args.hand)) c.other.ensures in
     record {
       room = omega (arith, e, c.requires.room);
-      small = c.requires.small;
       check = fair_less _ (20 + k) c.args.hand (omega arith) c.requires.fair;
       bet = fair_less _ (20 + k) c.args.hand (omega arith) c.requires.fair;
     }
@@ -21,4 +20,7 @@ pub returns : goal.returns
 returns g c =
     let then = g.F.Follow.then c.args.self.next in
     let opened = opens_as c.args.self.stakes.purse c.args.self.stakes.bet then c.args.self.raises in
-    carry c.args.share _ _ _ _ (ap (λ o. opened (λ h. opened then o h) c.args.who c.args.hand) c.other.ensures) c.opens.ensures
+    record {
+      same = c.opens.ensures.same;
+      wrote = carry c.args.share _ _ _ _ (ap (λ o. opened (λ h. opened then o h) c.args.who c.args.hand) c.other.ensures) c.opens.ensures.wrote;
+    }

@@ -7,6 +7,5 @@ round-requires c =
     let p = c.args.self.game.sound in
     record {
       room = search rules;
-      small = c.requires.small;
       fair = fair_less _ 100 _ (let r = p.raises in omega arith) c.seated-hand.ensures.fair;
     }
