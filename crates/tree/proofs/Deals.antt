@@ -4,7 +4,7 @@ use Rattle.std.specs.List.{filter}
 use Rattle.std.proofs.lemmas.Bool.{lt-ltb}
 use Rattle.std.proofs.lemmas.List.{append_assoc, append-nil, take_more, take_all, length-take-le, take-take}
 use Rattle.tree.specs.declared.Node.{Node}
-use Rattle.tree.specs.Compact.{Play, no_more, size, sizes, each}
+use Rattle.tree.specs.Compact.{Play, size, sizes, each}
 use Rattle.rules.specs.Play.{left}
 use Rattle.tree.specs.Flat.{unnumbered, raw, put, Written}
 use Rattle.cards.specs.Game.{total}

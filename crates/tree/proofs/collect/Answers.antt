@@ -1,5 +1,5 @@
-use Rattle.std.proofs.Common.{◌≡◌, ℕ, ◌+◌, ◌<◌, ◌≤◌, List, [], ◌∷◌, ◌++◌, length, get_or, take, Some, sym, refl, ap, ◌∙◌, arith}
-use Rattle.std.proofs.lemmas.List.{take_all, length_push}
+use Rattle.std.proofs.Common.{◌≡◌, ℕ, ◌+◌, ◌<◌, ◌≤◌, List, [], ◌∷◌, ◌++◌, length, get_or, Some, sym, ap, ◌∙◌, arith}
+use Rattle.std.proofs.lemmas.List.{length_push}
 use Rattle.tree.specs.declared.Sight.{Sight}
 use Rattle.rules.specs.declared.Player.{Player}
 use Rattle.tree.specs.declared.Node.{Node}
@@ -27,12 +27,6 @@ fresh W N I d z t n room h e at zero en l =
     let b = length_push (list W N I) z in
     let m = list_most W N (I + 1) in
     (more, omega (arith, a, b, m))
-
-pub bounds-table-k : goal.bounds-table-k
-bounds-table-k c =
-    let seen = sym c.seen_at.ensures ∙ c.in-Some.is in
-    let r = c.requires.ranged c.loop-node.node-index c.in-Some.z c.loop-node-test.true seen in
-    omega (arith, r.inside, c.slot-k.ensures, c.loop-node.auto.table)
 
 pub bounds-sights-n : goal.bounds-sights-n
 bounds-sights-n c =
@@ -77,9 +71,3 @@ loop-node-preserved c =
             (omega (arith, w.n-is, c.loop-node.invariant.1.0), tabled_same S _ _ (list W N I) (list W N (I + 1)) w.table-is same tab),
           ))
     ]
-
-pub returns : goal.returns
-returns c =
-    let e : take c.loop-node.node-index c.args.nodes.now ≡ c.args.nodes.now = take_all c.loop-node.node-index c.args.nodes.now c.loop-node-test.false in
-    let all = ap (λ l. noted [] (seen_in c.args.who l)) (sym e) in
-    record { sights = noted_same _ _ _ _ _ all c.loop-node.invariant.0; table = tabled_same _ _ _ _ _ refl all c.loop-node.invariant.1.1 }

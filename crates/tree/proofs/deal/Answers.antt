@@ -1,4 +1,4 @@
-use Rattle.std.proofs.Common.{◌≡◌, ℕ, ◌+◌, ◌<◌, List, length, take, refl, ap, ◌∙◌, subst, arith}
+use Rattle.std.proofs.Common.{◌≡◌, ℕ, ◌+◌, List, length, take, refl, ap, ◌∙◌, subst, arith}
 use Rattle.std.proofs.lemmas.List.{take_all}
 use Rattle.tree.specs.declared.Node.{Node}
 use Rattle.tree.specs.declared.writer.Writer.{Writer}
@@ -16,18 +16,15 @@ pub loop-rank-init : goal.loop-rank-init
 unfolding total
 loop-rank-init g c = record { rows = rows_none _ _ _; same = refl; counted = refl; few = omega arith }
 
-pub lead-requires : goal.lead-requires
-lead-requires g c =
+pub lead-requires-clause-room : goal.lead-requires-clause-room
+lead-requires-clause-room g c =
     let after = g.C.Card.after c.args.card in
     let same = c.cards-copies-items.ensures.value in
     let h = deal_room after c.cards-copies-items.result.now c.loop-rank.rank c.loop-rank-test.true c.if-left-gt0.true in
     let all = ap (λ cards. sizes (each 0 cards after)) same in
     let l0 = ap length c.skip-at.ensures.nodes in
     let l1 = rows_length _ _ _ _ _ _ (omega (arith, h, all, l0, c.requires.room, c.skip-at.ensures.at)) c.loop-rank.invariant.rows in
-    record {
-      ready = c.requires.ready c.loop-rank.rank (rw same at c.if-left-gt0.true);
-      room = omega (arith, h, all, l0, l1, c.requires.room, c.skip-at.ensures.at, c.loop-rank.invariant.rows.ends);
-    }
+    omega (arith, h, all, l0, l1, c.requires.room, c.skip-at.ensures.at, c.loop-rank.invariant.rows.ends)
 
 pub loop-rank-preserved : goal.loop-rank-preserved
 loop-rank-preserved g c =

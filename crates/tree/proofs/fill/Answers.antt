@@ -5,8 +5,8 @@ use Rattle.tree.proofs.Fills.{whole, ready, filled, begun, all_zero}
 use Rattle.tree.proofs.Measures.{size_is}
 use Rattle.tree.proofs.fill.Goals as goal
 
-pub written-requires : goal.written-requires
-written-requires c = record { room = (let e = size_is c.args.game.sheet c.args.game.sound in omega (arith, e, c.requires.exact)); small = c.requires.few }
+pub written-requires-clause-room : goal.written-requires-clause-room
+written-requires-clause-room c = let e = size_is c.args.game.sheet c.args.game.sound in omega (arith, e, c.requires.exact)
 
 pub index-requires : goal.index-requires
 index-requires c =

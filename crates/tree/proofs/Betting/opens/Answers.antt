@@ -1,8 +1,15 @@
-use Rattle.std.proofs.Common.{◌+◌, ap, refl, length, ◌∙◌, arith}
+use Rattle.std.proofs.Common.{◌+◌, ap, length, ◌∙◌, arith}
 use Rattle.tree.specs.Compact.{size}
+use Rattle.tree.specs.declared.Act.TheVariants.{Check}
+use Rattle.tree.proofs.Fairs.{fair_open}
 use Rattle.tree.proofs.Rounds.{carry, bet_is, two_written}
 use Rattle.tree.proofs.Writers.{written_length, begun, closed}
 use Rattle.tree.proofs.Betting.opens.Goals as goal
+
+pub follow-requires-clause-fair : goal.follow-requires-clause-fair
+follow-requires-clause-fair g c =
+    let k = g.C.Follow.spare c.args.checks in
+    rw c.acted.ensures (fair_open k 0 Check c.args.who c.args.hand (omega arith) c.requires.check)
 
 pub answers-requires-clause-room : goal.answers-requires-clause-room
 answers-requires-clause-room g c =

@@ -1,4 +1,4 @@
-use Rattle.std.proofs.Common.{◌≡◌, ◌<◌, length, slice_index, sym, ap, ◌≤◌, mul-le-mul_left, arith}
+use Rattle.std.proofs.Common.{◌≤◌, mul-le-mul_left, arith}
 use Rattle.tree.specs.Cards.{cards_of}
 use Rattle.tree.proofs.Deals.{size_more, size_skip}
 use Rattle.tree.proofs.deck.Deck.places.Goals as goal

@@ -1,4 +1,4 @@
-use Rattle.std.proofs.Common.{nat_lt, sym, ap, ◌∙◌, length, rules, tests}
+use Rattle.std.proofs.Common.{nat_lt, ap, ◌∙◌, length, rules, tests}
 use Rattle.std.proofs.lemmas.Iterator.{YieldsList-from_slice}
 use Rattle.std.proofs.lemmas.Iterator.Consumers.{YieldsList-from_filter, count_from_yields_List}
 use Rattle.rules.specs.Play.{left}
