@@ -718,12 +718,7 @@ fn seen_at(who: Player, place: Place) -> Option<Sight>
     match (who, place) {
         (Player::House, Place::House(z, _)) => Some(z),
         (Player::Guest, Place::Guest(z, _)) => Some(z),
-        (Player::House, Place::Over(_)) => None,
-        (Player::House, Place::Deal(_)) => None,
-        (Player::House, Place::Guest(_, _)) => None,
-        (Player::Guest, Place::Over(_)) => None,
-        (Player::Guest, Place::Deal(_)) => None,
-        (Player::Guest, Place::House(_, _)) => None,
+        _ => None,
     }
 }
 
@@ -787,24 +782,21 @@ fn number(nodes: &mut [Node], house: &[u32], guest: &[u32])
     }
 }
 
-// Notes and numbers the sights of both players, by a table for each that begins with zeros.
-fn index(
-    nodes: &mut [Node],
-    house: &mut [Sight],
-    guest: &mut [Sight],
-    ours: &mut [u32],
-    theirs: &mut [u32],
-)
+// Notes and numbers the sights of both players, by a table of N slots for each.
+fn index<const N: usize>(nodes: &mut [Node], house: &mut [Sight], guest: &mut [Sight])
     requires few { length nodes.old ≤ 65536 }
-    requires ours { Ready nodes.old House (length house.old) ours.old }
-    requires theirs { Ready nodes.old Guest (length guest.old) theirs.old }
+    requires slots { N ≤ 40950 }
+    requires ours { Ready nodes.old House (length house.old) (replicate N 0) }
+    requires theirs { Ready nodes.old Guest (length guest.old) (replicate N 0) }
     ensures nodes { nodes.new ≡ map (numbered_node (noted [] (seen_in House nodes.old)) (noted [] (seen_in Guest nodes.old))) nodes.old }
     ensures house { Begins (noted [] (seen_in House nodes.old)) house.old house.new }
     ensures guest { Begins (noted [] (seen_in Guest nodes.old)) guest.old guest.new }
 {
-    let _ = collect(nodes, Player::House, house, ours);
-    let _ = collect(nodes, Player::Guest, guest, theirs);
-    number(nodes, ours, theirs);
+    let mut ours = [0u32; N];
+    let mut theirs = [0u32; N];
+    let _ = collect(nodes, Player::House, house, &mut ours);
+    let _ = collect(nodes, Player::Guest, guest, &mut theirs);
+    number(nodes, &ours, &theirs);
 }
 
 // The slots of all sights, and of those of a first round.
@@ -824,13 +816,9 @@ fn fill(game: Game, nodes: &mut [Node], house: &mut [Sight], guest: &mut [Sight]
 {
     written(game, nodes);
     if game.sheet.public {
-        let mut ours = [0u32; SLOTS];
-        let mut theirs = [0u32; SLOTS];
-        index(nodes, house, guest, &mut ours, &mut theirs);
+        index::<SLOTS>(nodes, house, guest);
     } else {
-        let mut ours = [0u32; FIRST_SLOTS];
-        let mut theirs = [0u32; FIRST_SLOTS];
-        index(nodes, house, guest, &mut ours, &mut theirs);
+        index::<FIRST_SLOTS>(nodes, house, guest);
     }
 }
 

@@ -16,6 +16,7 @@ index-requires c =
     let t = inl (c.if-game.true, length-replicate {A = ℕ} 40950 0) in
     record {
       few = omega (arith, c.requires.few, c.written.auto.nodes);
+      slots = omega arith;
       ours = ready s h House c.written.new.nodes (length c.args.house.now) (replicate 40950 0) e c.requires.house t (all_zero 40950);
       theirs = ready s h Guest c.written.new.nodes (length c.args.guest.now) (replicate 40950 0) e c.requires.guest t (all_zero 40950);
     }
@@ -28,6 +29,7 @@ index-requires-else-game c =
     let t = inr (c.if-game.false, length-replicate {A = ℕ} 195 0) in
     record {
       few = omega (arith, c.requires.few, c.written.auto.nodes);
+      slots = omega arith;
       ours = ready s h House c.written.new.nodes (length c.args.house.now) (replicate 195 0) e c.requires.house t (all_zero 195);
       theirs = ready s h Guest c.written.new.nodes (length c.args.guest.now) (replicate 195 0) e c.requires.guest t (all_zero 195);
     }
