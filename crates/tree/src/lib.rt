@@ -2,8 +2,8 @@
 
 #![tactic(auto)]
 
-ghost use Rattle.std.specs.Prelude.{◌≡◌, ℕ, ◌+◌, ◌-◌, ◌*◌, ◌<◌, ◌≤◌, List, [], map, length, replicate, slice_index};
-ghost use Rattle.rules.specs.Play.{game as game_of, count as count_of, other as other_of, purse as purse_of, left as left_of, without};
+ghost use Rattle.std.specs.Prelude.{◌≡◌, ℕ, ◌+◌, ◌-◌, ◌*◌, ◌<◌, ◌≤◌, [], map, length, replicate, slice_index};
+ghost use Rattle.rules.specs.Play.{game as game_of, count as count_of, purse as purse_of, without};
 ghost use Rattle.rules.specs.Sound.{Sound};
 ghost use Rattle.tree.specs.declared.Hand.{Hand};
 ghost use Rattle.tree.specs.Compact.{Play, end, size, won_by_as, acted_as, due_of, answers_as, opens_as, round_as, deals_as, line_as, sight_of, settled_as, shows, shown_as, second_as, sits, first_as, game_as};
@@ -13,7 +13,7 @@ ghost use Rattle.tree.specs.Writes.{HasRoom, Wrote};
 ghost use Rattle.tree.specs.Flat.{Written, Fair, bet_size, first_size, seat, unnumbered, Noted};
 ghost use Rattle.tree.specs.Seen.{sight_at, seen_in, noted, numbered_node, sights_of};
 ghost use Rattle.tree.specs.Slots.{slot_of, Ranged, Tabled, tabled_place, tabled_node, Slotted, Ready};
-ghost use Rattle.rules.specs.Sights.{is_same_player, sights};
+ghost use Rattle.rules.specs.Sights.{sights};
 ghost use Rattle.rules.specs.Counts.{count_of_sights, word_count};
 ghost use Rattle.tree.specs.Told.{told, listed, ended, nth, offers_of};
 ghost use Rattle.tree.specs.Built.{number_of, refused_at, at_most, fitted, limited, admitted, sizes_of, Measured, Memory, Begins, nodes_of};
@@ -134,6 +134,7 @@ impl Default for Place {
     }
 }
 
+// Kept: the tree is a row of nodes in lent memory and no tree of boxes, since this crate uses no heap.
 // A place, its share of the parts of the deal that leads to it (the copies left of the rank), and how many places its tree has.
 #[derive(Clone, Copy, Default)]
 pub struct Node {
@@ -197,7 +198,8 @@ impl Stakes {
 
 // A round's line with one choice more.
 fn lengthened(a: Act, l: Line) -> Line
-    requires { (l.checks ≤ 240) × (l.bets ≤ 240) }
+    requires checks { l.checks ≤ 240 }
+    requires bets { l.bets ≤ 240 }
     ensures { result ≡ line_as a l }
 {
     match a {
@@ -316,6 +318,7 @@ impl Hand {
 
 // What follows a round of betting.
 trait Follow {
+    // What is written after this hand
     ghost then: { Self → Hand → Play };
 
     // How much more has to fit each number of the hand
@@ -413,8 +416,10 @@ impl<F: Follow + Copy> Follow for Checked<F> {
 
 // What a dealt card leads to.
 trait Card {
+    // What follows a card of this rank
     ghost after: { Self → ℕ → Play };
 
+    // What has to hold of the rank
     ghost ready: { Self → ℕ → Type 0 };
 
     fn lead(self, out: &mut Writer<'_>, rank: u8, share: u32)
@@ -487,6 +492,17 @@ impl Follow for Showdown {
     }
 }
 
+// The places of a round of betting, where so many follow each end without a fold.
+fn round_places(raises: u8, follow: u32) -> u32
+    requires raises { raises ≤ 3 }
+    requires follow { follow ≤ 1000 }
+    ensures value { result ≡ bet_size raises follow }
+    ensures most { result ≤ 10 + 9 * follow + 8 }
+{
+    let answers = (raises as u32 + 1) * (2 + follow);
+    2 + follow + 2 * answers
+}
+
 // The game of a rule sheet within its ranges.
 #[derive(Clone, Copy)]
 struct Game {
@@ -527,6 +543,78 @@ impl Game {
         ensures { cards_of result ≡ replicate self.sheet.ranks self.sheet.copies }
     {
         Deck::full(self.sheet.ranks, self.sheet.copies)
+    }
+
+    // The places from the first round on.
+    fn count_first(self, deck: Deck) -> u32
+        ensures value { result ≡ first_size self.sheet (cards_of deck) }
+        ensures most { result ≤ 6000 }
+    {
+        let raises = self.sheet.raises;
+        let last = round_places(raises, 1);
+        if self.sheet.public {
+            round_places(raises, 1 + deck.ranks_left() * last)
+        } else {
+            last
+        }
+    }
+
+    // The places from the guest's card on.
+    fn count_guest(self, deck: Deck) -> u32
+        ensures value { (a : ℕ) → result ≡ size (guest_deal self.sheet (cards_of deck) a) }
+        ensures most { result ≤ 80000 }
+    {
+        deck.places(
+            |rank: u8| -> u32
+                requires { 0 < slice_index (cards_of deck) rank }
+                ensures value { result ≡ first_size self.sheet (without rank (cards_of deck)) }
+                ensures most { result ≤ 6000 }
+            { self.count_first(deck.without(rank)) },
+        )
+    }
+
+    // The places of the whole tree.
+    fn count(self) -> u32
+        ensures { result ≡ size (game_as self.sheet) }
+    {
+        let deck = self.deck();
+        deck.places(
+            |rank: u8| -> u32
+                requires { 0 < slice_index (cards_of deck) rank }
+                ensures value { result ≡ size (guest_deal self.sheet (without rank (cards_of deck)) rank) }
+                ensures most { result ≤ 80000 }
+            { self.count_guest(deck.without(rank)) },
+        )
+    }
+
+    // How many sights each player has.
+    fn sight_count(self) -> u32
+        ensures { result ≡ count_of_sights self.sheet }
+    {
+        let sheet = self.sheet;
+        let ranks = sheet.ranks as u32;
+        let raises = sheet.raises as u32;
+        let shown = if sheet.copies == 1 { ranks - 1 } else { ranks };
+        let second = if sheet.public {
+            (2 * raises + 3) * shown
+        } else {
+            0
+        };
+        ranks * (raises + 2) * (1 + second)
+    }
+
+    // How many words a hand has that is played from this player's chair.
+    fn word_count(self, who: Player) -> u32
+        ensures { result ≡ word_count self.sheet who }
+    {
+        let sheet = self.sheet;
+        let raises = sheet.raises as u32;
+        let turns = if who == sheet.begins {
+            (raises + 4) / 2
+        } else {
+            (raises + 3) / 2
+        };
+        2 + turns + if sheet.public { 1 + turns } else { 0 }
     }
 }
 
@@ -658,59 +746,6 @@ fn written(game: Game, nodes: &mut [Node])
     deal(HouseCard { game, deck }, &mut out, 0, deck);
 }
 
-// The places of a round of betting, where so many follow each end without a fold.
-fn round_places(raises: u8, follow: u32) -> u32
-    requires { (raises ≤ 3) × (follow ≤ 1000) }
-    ensures { (result ≡ bet_size raises follow) × (result ≤ 10 + 9 * follow + 8) }
-{
-    let answers = (raises as u32 + 1) * (2 + follow);
-    2 + follow + 2 * answers
-}
-
-impl Game {
-    // The places from the first round on.
-    fn count_first(self, deck: Deck) -> u32
-        ensures value { result ≡ first_size self.sheet (cards_of deck) }
-        ensures most { result ≤ 6000 }
-    {
-        let raises = self.sheet.raises;
-        let last = round_places(raises, 1);
-        if self.sheet.public {
-            round_places(raises, 1 + deck.ranks_left() * last)
-        } else {
-            last
-        }
-    }
-
-    // The places from the guest's card on.
-    fn count_guest(self, deck: Deck) -> u32
-        ensures value { (a : ℕ) → result ≡ size (guest_deal self.sheet (cards_of deck) a) }
-        ensures most { result ≤ 80000 }
-    {
-        deck.places(
-            |rank: u8| -> u32
-                requires { 0 < slice_index (cards_of deck) rank }
-                ensures value { result ≡ first_size self.sheet (without rank (cards_of deck)) }
-                ensures most { result ≤ 6000 }
-            { self.count_first(deck.without(rank)) },
-        )
-    }
-
-    // The places of the whole tree.
-    fn count(self) -> u32
-        ensures { result ≡ size (game_as self.sheet) }
-    {
-        let deck = self.deck();
-        deck.places(
-            |rank: u8| -> u32
-                requires { 0 < slice_index (cards_of deck) rank }
-                ensures value { result ≡ size (guest_deal self.sheet (without rank (cards_of deck)) rank) }
-                ensures most { result ≤ 80000 }
-            { self.count_guest(deck.without(rank)) },
-        )
-    }
-}
-
 // The sight of this player at a place.
 fn seen_at(who: Player, place: Place) -> Option<Sight>
     ensures { result ≡ sight_at who place }
@@ -722,6 +757,7 @@ fn seen_at(who: Player, place: Place) -> Option<Sight>
     }
 }
 
+// Kept: a table of slots on the stack and no map from sights to numbers, since this crate uses no heap.
 // Where a sight stands in a table.
 fn slot(z: Sight) -> usize
     ensures { result ≡ slot_of z }
@@ -868,38 +904,6 @@ impl Refusal {
             Refusal::NoRoom | Refusal::TooLarge => 0,
             Refusal::NoSightRoom => 1,
         }
-    }
-}
-
-impl Game {
-    // How many sights each player has.
-    fn sight_count(self) -> u32
-        ensures { result ≡ count_of_sights self.sheet }
-    {
-        let sheet = self.sheet;
-        let ranks = sheet.ranks as u32;
-        let raises = sheet.raises as u32;
-        let shown = if sheet.copies == 1 { ranks - 1 } else { ranks };
-        let second = if sheet.public {
-            (2 * raises + 3) * shown
-        } else {
-            0
-        };
-        ranks * (raises + 2) * (1 + second)
-    }
-
-    // How many words a hand has that is played from this player's chair.
-    fn word_count(self, who: Player) -> u32
-        ensures { result ≡ word_count self.sheet who }
-    {
-        let sheet = self.sheet;
-        let raises = sheet.raises as u32;
-        let turns = if who == sheet.begins {
-            (raises + 4) / 2
-        } else {
-            (raises + 3) / 2
-        };
-        2 + turns + if sheet.public { 1 + turns } else { 0 }
     }
 }
 
