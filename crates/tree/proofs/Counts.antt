@@ -1,5 +1,5 @@
 -- How many places there are. Assumes nothing.
-use Rattle.std.proofs.Common.{◌≡◌, ℕ, zero, suc, ◌+◌, ◌*◌, ◌≤◌, Bool, true, false, List, [], ◌∷◌, length, sym, refl, ap, ◌∙◌, add-mul, mul-le-mul, one-mul, arith}
+use Rattle.std.proofs.Common.{◌≡◌, ℕ, zero, suc, ◌+◌, ◌*◌, Bool, true, false, List, [], ◌∷◌, length, refl, ap, ◌∙◌, add-mul, one-mul, arith}
 use Rattle.cards.specs.Game.{pick}
 use Rattle.rules.specs.declared.Player.{Player}
 use Rattle.rules.specs.declared.Sheet.{Sheet}
@@ -51,14 +51,3 @@ first_size_is s deck h = go s.public
         ≡ bet_size s.raises (pick p (1 + length (left deck) * bet_size s.raises 1) 1)
     go true = round_size (purse s) s.bets.first (1 + length (left deck) * bet_size s.raises 1) (second_as s deck) second s.raises s.begins h
     go false = round_size (purse s) s.bets.first 1 (λ h'. end (higher_as (purse s) h')) (λ h'. refl) s.raises s.begins h
-
-pub bet_most : (x c : ℕ) → x ≤ 3 → bet_size x c ≤ 10 + 9 * c + 8
-bet_most x c h = let l : x + 1 ≤ 4 = omega arith in let k : 2 + c ≤ 2 + c = omega arith in let m = mul-le-mul l k in omega (arith, m)
-
-pub public_first : (s : Sheet) (deck : List ℕ) (n m r : ℕ) → s.public ≡ true → n ≡ length (left deck) → m ≡ bet_size s.raises 1 → r ≡ bet_size s.raises (1 + n * m) → r ≡ first_size s deck
-public_first s deck n m r e en em er =
-    er ∙ ap (λ v. bet_size s.raises (1 + v * m)) en ∙ ap (λ v. bet_size s.raises (1 + length (left deck) * v)) em
-    ∙ ap (λ p. bet_size s.raises (pick p (1 + length (left deck) * bet_size s.raises 1) 1)) (sym e)
-
-pub plain_first : (s : Sheet) (deck : List ℕ) (r : ℕ) → s.public ≡ false → r ≡ bet_size s.raises 1 → r ≡ first_size s deck
-plain_first s deck r e er = er ∙ ap (λ p. bet_size s.raises (pick p (1 + length (left deck) * bet_size s.raises 1) 1)) (sym e)

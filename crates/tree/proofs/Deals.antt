@@ -1,8 +1,10 @@
 -- Writing a deal rank by rank. Assumes nothing.
-use Rattle.std.proofs.Common.{◌≡◌, ℕ, zero, suc, ◌+◌, ◌<◌, ◌≤◌, List, [], ◌∷◌, ◌++◌, length, get_or, take, drop, sym, refl, ap, ◌∙◌, add-zero, arith, length-append, take-append-drop}
-use Rattle.std.proofs.lemmas.List.{append_assoc, append-nil, take_more, length-take-le, take-take}
+use Rattle.std.proofs.Common.{◌≡◌, ℕ, nat_lt, cond, zero, suc, ◌+◌, ◌<◌, ◌≤◌, List, [], ◌∷◌, ◌++◌, length, get_or, take, drop, sym, refl, ap, ◌∙◌, add-zero, arith, length-append, take-append-drop}
+use Rattle.std.specs.List.{filter}
+use Rattle.std.proofs.lemmas.Bool.{lt-ltb}
+use Rattle.std.proofs.lemmas.List.{append_assoc, append-nil, take_more, take_all, length-take-le, take-take}
 use Rattle.tree.specs.declared.Node.{Node}
-use Rattle.tree.specs.Compact.{Play, no_more, size, sizes, each}
+use Rattle.tree.specs.Compact.{Play, size, sizes, each}
 use Rattle.rules.specs.Play.{left}
 use Rattle.tree.specs.Flat.{unnumbered, raw, put, Written}
 use Rattle.cards.specs.Game.{total}
@@ -64,18 +66,13 @@ module _ (then : ℕ → Play) where
       let c = length_flats unnumbered unnumbered (left (take (i + 1) deck)) (each 0 (take (i + 1) deck) then) in
       let e = ap length same in omega (arith, b, c, e)
 
-  pub deal_room : (deck : List ℕ) (i n : ℕ) → i < n → n ≤ length deck → 0 < get_or deck i 0 →
-      sizes (each 0 (take i deck) then) + size (then i) ≤ sizes (each 0 (take n deck) then)
-  deal_room deck i n h l p =
-      let a = size_more deck i (omega arith) p in
-      let b = upto_less deck (i + 1) n (omega arith) l in
-      omega arith
-
-  pub Upto : List ℕ → ℕ → ℕ → List Node → List Node → ℕ → Type 0
-  Upto deck i at xs ys k = Rows (left (take i deck)) (each 0 (take i deck) then) at xs ys k
-
-  pub upto_none : (deck : List ℕ) (at : ℕ) (xs : List Node) → Rows [] no_more at xs xs at → Rows (left (take 0 deck)) (each 0 (take 0 deck) then) at xs xs at
-  upto_none deck at xs r = r
+  pub deal_room : (deck : List ℕ) (i : ℕ) → i < length deck → 0 < get_or deck i 0 →
+      sizes (each 0 (take i deck) then) + size (then i) ≤ sizes (each 0 deck then)
+  deal_room deck i h p =
+      let a = size_more deck i h p in
+      let b = upto_less deck (i + 1) (length deck) (omega arith) (omega arith) in
+      let c = ap (λ l. sizes (each 0 l then)) (take_all (length deck) deck (omega arith)) in
+      omega (arith, a, b, c)
 
   pub upto_more : (deck : List ℕ) (i at k j : ℕ) (xs ys zs : List Node) → i < length deck → 0 < get_or deck i 0 →
       at + sizes (each 0 (take i deck) then) ≤ length xs →
@@ -121,25 +118,7 @@ cards_more deck i h =
     ap (λ l. total (left l)) (take_more deck i 0 h) ∙ cards_append (take i deck) (get_or deck i 0 ∷ []) ∙ ap (λ n. total (left (take i deck)) + n) (one_total (get_or deck i 0))
 
 -- the ranks that are left
-length_left_append : (d e : List ℕ) → length (left (d ++ e)) ≡ length (left d) + length (left e)
-length_left_append [] e = omega arith
-length_left_append (zero ∷ d) e = length_left_append d e
-length_left_append (suc c ∷ d) e = let h = length_left_append d e in omega arith
-
-one_left : (c : ℕ) → 0 < c → length (left (c ∷ [])) ≡ 1
-one_left zero h = absurd (omega arith)
-one_left (suc c) h = refl
-
-none_left : (c : ℕ) → c ≤ 0 → length (left (c ∷ [])) ≡ 0
-none_left zero h = refl
-none_left (suc c) h = absurd (omega arith)
-
-pub left_more : (deck : List ℕ) (i : ℕ) → i < length deck → 0 < get_or deck i 0 → length (left (take (i + 1) deck)) ≡ length (left (take i deck)) + 1
-left_more deck i h p =
-    ap (λ l. length (left l)) (take_more deck i 0 h) ∙ length_left_append (take i deck) (get_or deck i 0 ∷ []) ∙ ap (λ n. length (left (take i deck)) + n) (one_left (get_or deck i 0) p)
-
-pub left_skip : (deck : List ℕ) (i : ℕ) → i < length deck → get_or deck i 0 ≤ 0 → length (left (take (i + 1) deck)) ≡ length (left (take i deck))
-left_skip deck i h p =
-    let a = ap (λ l. length (left l)) (take_more deck i 0 h) in
-    let b = length_left_append (take i deck) (get_or deck i 0 ∷ []) in
-    let c = none_left (get_or deck i 0) p in omega (arith, a, b, c)
+pub filter_left : (xs : List ℕ) → filter (nat_lt 0) xs ≡ left xs
+filter_left [] = refl
+filter_left (zero ∷ xs) = filter_left xs
+filter_left (suc c ∷ xs) = ap (λ b. cond b (suc c ∷ filter (nat_lt 0) xs) (filter (nat_lt 0) xs)) (lt-ltb 0 (suc c) (omega arith)) ∙ ap (λ l. suc c ∷ l) (filter_left xs)

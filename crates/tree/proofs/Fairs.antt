@@ -46,10 +46,6 @@ quiet k (Some r) a h q =
     let s = short k a h.second (record { checks = q.checks2; bets = q.bets2 }) in
     record { checks2 = s.checks; bets2 = s.bets; checks1 = (let a = q.checks1 in omega arith); bets1 = (let a = q.bets1 in omega arith) }
 
-hush : (k : ℕ) (o : Option ℕ) (h : History) → Quiet k h → Quiet k (hears_in o Call h)
-hush k None h q = record { checks1 = q.checks1; bets1 = q.bets1; checks2 = q.checks2; bets2 = q.bets2 }
-hush k (Some r) h q = record { checks1 = q.checks1; bets1 = q.bets1; checks2 = q.checks2; bets2 = q.bets2 }
-
 record Cheap (k : ℕ) (p : Paid) : Type 0 where
   house : p.house + k ≤ 240
   guest : p.guest + k ≤ 240
@@ -63,10 +59,6 @@ even : (k b : ℕ) (w : Player) (p : Paid) → b ≤ 10 → Cheap (10 + k) p →
 even k b House p l q = let a = q.house in let c = q.guest in omega arith
 even k b Guest p l q = let a = q.house in let c = q.guest in omega arith
 
-level : (k : ℕ) (w : Player) (p : Paid) → Cheap k p → paid_by w p + due_of w p + k ≤ 240
-level k House p q = let a = q.house in let c = q.guest in omega arith
-level k Guest p q = let a = q.house in let c = q.guest in omega arith
-
 join : (k : ℕ) (h : Hand) → Cheap k h.paid → Quiet k h.history → Fair k h
 join k h c q = record { house = c.house; guest = c.guest; checks1 = q.checks1; bets1 = q.bets1; checks2 = q.checks2; bets2 = q.bets2 }
 
@@ -75,10 +67,6 @@ of_paid k h f = record { house = f.house; guest = f.guest }
 
 of_history : (k : ℕ) (h : Hand) → Fair k h → Quiet k h.history
 of_history k h f = record { checks1 = f.checks1; bets1 = f.bets1; checks2 = f.checks2; bets2 = f.bets2 }
-
-pub fair_call : (k : ℕ) (w : Player) (h : Hand) → Fair k h → Fair k (acted_as w Call (due_of w h.paid) h)
-fair_call k w h f =
-    join k (acted_as w Call (due_of w h.paid) h) (cheap k (due_of w h.paid) w h.paid (level k w h.paid (of_paid k h f)) (of_paid k h f)) (hush k h.history.public h.history (of_history k h f))
 
 pub fair_raise : (k b : ℕ) (w : Player) (h : Hand) → b ≤ 10 → Fair (10 + k) h → Fair k (acted_as w Raise (due_of w h.paid + b) h)
 fair_raise k b w h l f =
@@ -95,7 +83,3 @@ fair_open k b a w h l f =
     join k (acted_as w a b h)
     (cheap k b w h.paid (afford k b w h.paid l (of_paid (10 + k) h f)) (of_paid k h (fair_less k (10 + k) h (omega arith) f)))
     (quiet k h.history.public a h.history (of_history (10 + k) h f))
-
-pub due_small : (k : ℕ) (w : Player) (h : Hand) → Fair k h → due_of w h.paid ≤ 240
-due_small k House h f = let a = f.guest in omega arith
-due_small k Guest h f = let a = f.house in omega arith

@@ -11,7 +11,7 @@ use Rattle.tree.specs.declared.Node.{Node}
 use Rattle.tree.specs.Rep.{node, node_at}
 use Rattle.tree.specs.Flat.{put, Noted}
 use Rattle.tree.specs.Seen.{same_stored_sight, place_of, known, noted, as_list, sight_at, seen_in, numbered_place, numbered_node}
-use Rattle.tree.specs.Slots.{slot_of, Tabled, tabled_place, tabled_node, Slotted, Ready}
+use Rattle.tree.specs.Slots.{slot_of, Tabled, tabled_place, tabled_node, Ready}
 use Rattle.tree.specs.Built.{Begins}
 use Rattle.tree.proofs.Equal.{sight_same, sight_itself}
 
@@ -92,12 +92,3 @@ module _ (ns : List Node) (room room' : ℕ) (h0 h g0 g : List ℕ) (rh : Ready 
   tabled_numbered =
       map_same (tabled_node h g) (numbered_node hs gs) ns
       (λ i l. ap (λ p. node p (node_at ns i).share (node_at ns i).size) (place_same i l (node_at ns i).place refl))
-
-  slotted_at : (i : ℕ) → i < length ns → length h ≡ length h0 → length g ≡ length g0 → (p : Place) → (node_at ns i).place ≡ p → Slotted h g p
-  slotted_at i l a b (Over e) q = tt
-  slotted_at i l a b (Deal n) q = tt
-  slotted_at i l a b (House z n) q = let r = (rh.ranged i z l (ap (sight_at Ours) q)).inside in omega (arith, r)
-  slotted_at i l a b (Guest z n) q = let r = (rg.ranged i z l (ap (sight_at Theirs) q)).inside in omega (arith, r)
-
-  pub all_slotted : length h ≡ length h0 → length g ≡ length g0 → (i : ℕ) → i < length ns → Slotted h g (node_at ns i).place
-  all_slotted a b i l = slotted_at i l a b (node_at ns i).place refl

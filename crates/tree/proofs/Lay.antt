@@ -1,16 +1,15 @@
 -- Writing a played hand place by place. Assumes nothing.
-use Rattle.std.proofs.Common.{◌≡◌, ℕ, suc, ◌+◌, ◌-◌, ◌<◌, ◌≤◌, List, [], ◌∷◌, length, set, sym, refl, ap, ◌∙◌, arith, length-append}
+use Rattle.std.proofs.Common.{◌≡◌, ℕ, suc, ◌+◌, ◌-◌, ◌≤◌, List, [], ◌∷◌, length, set, sym, refl, ap, ◌∙◌, arith, length-append}
 use Rattle.rules.specs.declared.Player.{Player}
-use Rattle.rules.specs.declared.Ends.{Ends}
 use Rattle.tree.specs.declared.Sight.{Sight}
 use Rattle.tree.specs.declared.Place.{Place}
-use Rattle.tree.specs.declared.Place.TheVariants.{Over, Deal}
+use Rattle.tree.specs.declared.Place.TheVariants.{Deal}
 use Rattle.tree.specs.declared.Node.{Node}
 use Rattle.tree.specs.Compact.{Play, end, dealt, turn, Plays, no_more, also, size, sizes}
 use Rattle.tree.specs.Flat.{flat, flats, raw, unnumbered, put, seat, Written}
 use Rattle.tree.specs.Rep.{node, first_of, rest_of}
 use Rattle.cards.specs.Game.{total}
-use Rattle.tree.proofs.Put.{put_nil, put_one, put_more, put_front}
+use Rattle.tree.proofs.Put.{put_nil, put_more, put_front}
 
 mutual
   pub length_flat : (f g : Sight → ℕ) (c : ℕ) (p : Play) → length (flat f g c p) ≡ size p
@@ -46,9 +45,6 @@ rows_also ws p ps at k j xs ys zs h w r =
       holds = r.holds ∙ ap (λ l. put l k (raws (rest_of ws) ps)) w.holds
           ∙ put_more xs (raw (first_of ws) p) (raws (rest_of ws) ps) at k (let a = w.ends in omega (arith, lp)) (omega (arith, lp));
     }
-
-pub over_written : (c : ℕ) (t : Ends) (at : ℕ) (xs : List Node) → at < length xs → Written c (end t) at xs (set xs at (node (Over t) c 1)) (at + 1)
-over_written c t at xs h = record { ends = refl; holds = put_one xs at (node (Over t) c 1) h }
 
 pub turn_written : (c : ℕ) (w : Player) (z : Sight) (ps : Plays) (at k : ℕ) (xs ys : List Node) (pl : Place) (n : ℕ) →
     at + 1 + sizes ps ≤ length xs → Rows [] ps (at + 1) xs ys k → pl ≡ seat unnumbered unnumbered w z → n ≡ k - at →

@@ -1,9 +1,9 @@
 mod Put
 mod Lay
+mod Writers
 mod Fairs
 mod Rounds
 mod Deals
-mod Decks
 mod Counts
 mod Equal
 mod Sees

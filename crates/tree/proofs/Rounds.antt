@@ -5,8 +5,8 @@ use Rattle.rules.specs.declared.Ends.{Ends}
 use Rattle.tree.specs.declared.Hand.{Hand}
 use Rattle.tree.specs.declared.Place.{Place}
 use Rattle.tree.specs.declared.Node.{Node}
-use Rattle.tree.specs.declared.Act.TheVariants.{Check, Bet, Call, Raise}
-use Rattle.tree.specs.Compact.{Play, end, turn, no_more, also, size, won_by_as, sight_of, acted_as, due_of, answers_as, opens_as}
+use Rattle.tree.specs.declared.Act.TheVariants.{Bet, Call, Raise}
+use Rattle.tree.specs.Compact.{Play, end, turn, no_more, also, size, won_by_as, sight_of, acted_as, due_of, answers_as}
 use Rattle.rules.specs.Play.{other}
 use Rattle.tree.specs.Flat.{unnumbered, seat, Written}
 use Rattle.tree.specs.Rep.{node}
@@ -14,14 +14,6 @@ use Rattle.tree.proofs.Lay.{rows_none, rows_also, turn_written}
 
 pub carry : (c at k : ℕ) (xs ys : List Node) {p q : Play} → p ≡ q → Written c p at xs ys k → Written c q at xs ys k
 carry c at k xs ys e w = let P : Play → Type 0 = λ p. Written c p at xs ys k in subst P e w
-
--- where two ways meet
-pub met : (c : ℕ) (p : Play) (at k i : ℕ) (xs out vs : List Node) (pl : Place) → k ≡ i → out ≡ vs →
-    Written c p at xs (set vs at (node pl c (i - at))) i → Written c p at xs (set out at (node pl c (k - at))) k
-met c p at k i xs out vs pl ek eo w =
-    let P : ℕ → Type 0 = λ n. Written c p at xs (set vs at (node pl c (n - at))) n in
-    let Q : List Node → Type 0 = λ l. Written c p at xs (set l at (node pl c (k - at))) k in
-    subst Q (sym eo) (subst P (sym ek) w)
 
 module _ (t b : ℕ) (then : Hand → Play) where
   abbrev pub called : Player → Hand → Play
@@ -104,6 +96,3 @@ two_written c w h p q at j k xs ys zs pl room a b e ly =
 module _ (t b : ℕ) (then : Hand → Play) where
   pub bet_is : (x : ℕ) (w o : Player) (h hb : Hand) → o ≡ other w → hb ≡ acted_as w Bet b h → answers_as t b then x o hb ≡ answers_as t b then x (other w) (acted_as w Bet b h)
   bet_is x w o h hb eo eh = ap (λ v. answers_as t b then x v hb) eo ∙ ap (answers_as t b then x (other w)) eh
-
-  pub check_is : (x : ℕ) (w o : Player) (h hc : Hand) → o ≡ other w → hc ≡ acted_as w Check 0 h → opens_as t b then x then o hc ≡ opens_as t b then x then (other w) (acted_as w Check 0 h)
-  check_is x w o h hc eo eh = ap (λ v. opens_as t b then x then v hc) eo ∙ ap (opens_as t b then x then (other w)) eh

@@ -43,6 +43,17 @@ chair_of s w = record { sights = length (sights w (game s)); words = word_count 
 abbrev pub sizes_of : Sheet → Sizes
 sizes_of s = record { places = count (game s); house = chair_of s House; guest = chair_of s Guest; table = 2 * purse s }
 
+-- the places fit the memory for the tree; the sights of each player fit theirs
+abbrev pub fitted : Sizes → ℕ → ℕ → ℕ → Result Sizes Refusal
+fitted z nodes house guest =
+    pick (nat_le z.places nodes)
+    (pick (nat_le z.house.sights house)
+    (pick (nat_le z.guest.sights guest) (Ok z) (Err NoSightRoom)) (Err NoSightRoom)) (Err NoRoom)
+
+-- there are at most 65,536 places
+abbrev pub limited : Sizes → Result Sizes Refusal
+limited z = pick (nat_le z.places 65536) (Ok z) (Err TooLarge)
+
 -- the places fit the memory for the tree; the sights of each player fit theirs; there are at most 65,536 places
 abbrev pub admitted : Sizes → ℕ → ℕ → ℕ → Result Sizes Refusal
 admitted z nodes house guest =

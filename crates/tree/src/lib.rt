@@ -2,36 +2,43 @@
 
 #![tactic(auto)]
 
-ghost use Rattle.std.specs.Prelude.{◌≡◌, ℕ, ◌+◌, ◌-◌, ◌*◌, ◌<◌, ◌≤◌, List, [], map, length, take, slice_index};
-ghost use Rattle.rules.specs.Play.{game, count as count_of, other as other_of, purse as purse_of, left as left_of, without};
+ghost use Rattle.std.specs.Prelude.{◌≡◌, ℕ, ◌+◌, ◌-◌, ◌*◌, ◌<◌, ◌≤◌, [], map, length, replicate, slice_index};
+ghost use Rattle.rules.specs.Play.{game as game_of, count as count_of, purse as purse_of, without};
 ghost use Rattle.rules.specs.Sound.{Sound};
 ghost use Rattle.tree.specs.declared.Hand.{Hand};
 ghost use Rattle.tree.specs.Compact.{Play, end, size, won_by_as, acted_as, due_of, answers_as, opens_as, round_as, deals_as, line_as, sight_of, settled_as, shows, shown_as, second_as, sits, first_as, game_as};
 ghost use Rattle.tree.specs.Rep.{node_at};
-ghost use Rattle.tree.specs.Flat.{Written, Fair, second_card, guest_card, bet_size, first_size, seat, unnumbered, Noted};
+ghost use Rattle.tree.specs.Cards.{cards_of, guest_deal};
+ghost use Rattle.tree.specs.Writes.{HasRoom, Wrote};
+ghost use Rattle.tree.specs.Flat.{Written, Fair, bet_size, first_size, seat, unnumbered, Noted};
 ghost use Rattle.tree.specs.Seen.{sight_at, seen_in, noted, numbered_node, sights_of};
 ghost use Rattle.tree.specs.Slots.{slot_of, Ranged, Tabled, tabled_place, tabled_node, Slotted, Ready};
-ghost use Rattle.rules.specs.Sights.{is_same_player, sights};
+ghost use Rattle.rules.specs.Sights.{sights};
 ghost use Rattle.rules.specs.Counts.{count_of_sights, word_count};
 ghost use Rattle.tree.specs.Told.{told, listed, ended, nth, offers_of};
-ghost use Rattle.tree.specs.Built.{number_of, refused_at, at_most, admitted, sizes_of, Measured, Memory, Begins, nodes_of};
+ghost use Rattle.tree.specs.Built.{number_of, refused_at, at_most, fitted, limited, admitted, sizes_of, Measured, Memory, Begins, nodes_of};
 ghost use Rattle.rules.specs.declared.Player.TheVariants.{House, Guest};
 
+mod deck;
+mod writer;
+
+use deck::Deck;
 use rules::{Ends, Player, Sheet};
+use writer::Writer;
 
 mod kids;
 
 pub use kids::Kids;
 
 // The choices of a round so far: so many checks, then so many bets and raises. A call ends a round and is not counted.
-#[derive(Clone, Copy)]
+#[derive(Clone, Copy, Default)]
 pub struct Line {
     pub checks: u8,
     pub bets: u8,
 }
 
 // What was done and shown before both players: the first round, the public card, the second round.
-#[derive(Clone, Copy)]
+#[derive(Clone, Copy, Default)]
 pub struct History {
     pub first: Line,
     pub public: Option<u8>,
@@ -39,7 +46,7 @@ pub struct History {
 }
 
 // A sight: what the player to act sees.
-#[derive(Clone, Copy)]
+#[derive(Clone, Copy, Default)]
 pub struct Sight {
     pub own: u8,
     pub history: History,
@@ -120,8 +127,20 @@ pub enum Place {
     Guest(Sight, u32),
 }
 
+// What stands in blank memory: over, and nobody has anything.
+impl Default for Place {
+    ghost use Rattle.tree.specs.declared.Place.TheVariants.{Over};
+
+    ghost is_default = { λ p. p ≡ Over (record { house = 0; guest = 0 }) };
+
+    fn default() -> Place {
+        Place::Over(Ends { house: 0, guest: 0 })
+    }
+}
+
+// Kept: the tree is a row of nodes in lent memory and no tree of boxes, since this crate uses no heap.
 // A place, its share of the parts of the deal that leads to it (the copies left of the rank), and how many places its tree has.
-#[derive(Clone, Copy)]
+#[derive(Clone, Copy, Default)]
 pub struct Node {
     pub place: Place,
     pub share: u32,
@@ -158,20 +177,33 @@ enum Act {
 struct Stakes {
     purse: u32,
     bet: u32,
+    ghost purse_small: { purse ≤ 1000 },
+    ghost bet_small: { bet ≤ 10 },
 }
 
-fn other(w: Player) -> Player
-    ensures { result ≡ other_of w }
-{
-    match w {
-        Player::House => Player::Guest,
-        Player::Guest => Player::House,
+impl Stakes {
+    // What each player has where this one takes all.
+    fn won_by(self, who: Player, hand: Hand) -> Ends
+        requires { Fair 0 hand }
+        ensures { result ≡ won_by_as self.purse who hand }
+    {
+        match who {
+            Player::House => Ends {
+                house: self.purse + hand.paid.guest,
+                guest: self.purse.saturating_sub(hand.paid.guest),
+            },
+            Player::Guest => Ends {
+                house: self.purse.saturating_sub(hand.paid.house),
+                guest: self.purse + hand.paid.house,
+            },
+        }
     }
 }
 
 // A round's line with one choice more.
 fn lengthened(a: Act, l: Line) -> Line
-    requires { (l.checks ≤ 240) × (l.bets ≤ 240) }
+    requires checks { l.checks ≤ 240 }
+    requires bets { l.bets ≤ 240 }
     ensures { result ≡ line_as a l }
 {
     match a {
@@ -187,505 +219,499 @@ fn lengthened(a: Act, l: Line) -> Line
     }
 }
 
-// The hand after a choice that puts in `k` tokens.
-fn acted(who: Player, a: Act, k: u32, hand: Hand) -> Hand
-    requires { (Fair 0 hand) × (k ≤ 1000) }
-    ensures { result ≡ acted_as who a k hand }
-{
-    let p = hand.paid;
-    let paid = match who {
-        Player::House => Paid {
-            house: p.house + k,
-            guest: p.guest,
-        },
-        Player::Guest => Paid {
-            house: p.house,
-            guest: p.guest + k,
-        },
-    };
-    let h = hand.history;
-    let history = match h.public {
-        None => History {
-            first: lengthened(a, h.first),
-            public: h.public,
-            second: h.second,
-        },
-        Some(_) => History {
-            first: h.first,
-            public: h.public,
-            second: lengthened(a, h.second),
-        },
-    };
-    Hand {
-        house: hand.house,
-        guest: hand.guest,
-        paid,
-        history,
+impl Paid {
+    // What a player has to put in to call.
+    fn due(self, who: Player) -> u32
+        ensures { result ≡ due_of who self }
+    {
+        match who {
+            Player::House => self.guest.saturating_sub(self.house),
+            Player::Guest => self.house.saturating_sub(self.guest),
+        }
     }
 }
 
-// What a player has to put in to call.
-fn due(who: Player, p: Paid) -> u32
-    ensures { result ≡ due_of who p }
-{
-    match who {
-        Player::House => p.guest.saturating_sub(p.house),
-        Player::Guest => p.house.saturating_sub(p.guest),
-    }
-}
-
-// What each player has where this one takes all.
-fn won_by(purse: u32, who: Player, hand: Hand) -> Ends
-    requires { (Fair 0 hand) × (purse ≤ 1000) }
-    ensures { result ≡ won_by_as purse who hand }
-{
-    match who {
-        Player::House => Ends {
-            house: purse + hand.paid.guest,
-            guest: purse.saturating_sub(hand.paid.guest),
-        },
-        Player::Guest => Ends {
-            house: purse.saturating_sub(hand.paid.house),
-            guest: purse + hand.paid.house,
-        },
-    }
-}
-
-// A place where a player is to choose, its sight not numbered yet.
-fn choice(who: Player, hand: Hand) -> Place
-    ensures { result ≡ seat unnumbered unnumbered who (sight_of who hand) }
-{
-    match who {
-        Player::House => Place::House(
-            Sight {
-                own: hand.house,
-                history: hand.history,
+impl Hand {
+    // The hand as the betting begins.
+    fn seated(ante: u8, house: u8, guest: u8) -> Hand
+        requires { ante ≤ 10 }
+        ensures value { result ≡ sits ante house guest }
+        ensures fair { Fair 100 result }
+    {
+        Hand {
+            house,
+            guest,
+            paid: Paid {
+                house: ante as u32,
+                guest: ante as u32,
             },
-            0,
-        ),
-        Player::Guest => Place::Guest(
-            Sight {
-                own: hand.guest,
-                history: hand.history,
-            },
-            0,
-        ),
+            history: History::default(),
+        }
     }
-}
 
-// Writes an end, with what each player has; gives the index after it.
-fn over(out: &mut [Node], at: usize, share: u32, ends: Ends) -> usize
-    requires { (at < length out.old) × (length out.old ≤ 65536) }
-    ensures { Written share (end ends) at out.old out.new result }
-{
-    out[at] = Node {
-        place: Place::Over(ends),
-        share,
-        size: 1,
-    };
-    at + 1
+    // The hand after a choice that puts in `k` tokens.
+    fn acted(self, who: Player, a: Act, k: u32) -> Hand
+        requires fair { Fair 0 self }
+        requires small { k ≤ 1000 }
+        ensures { result ≡ acted_as who a k self }
+    {
+        let p = self.paid;
+        let paid = match who {
+            Player::House => Paid {
+                house: p.house + k,
+                guest: p.guest,
+            },
+            Player::Guest => Paid {
+                house: p.house,
+                guest: p.guest + k,
+            },
+        };
+        let h = self.history;
+        let history = match h.public {
+            None => History {
+                first: lengthened(a, h.first),
+                ..h
+            },
+            Some(_) => History {
+                second: lengthened(a, h.second),
+                ..h
+            },
+        };
+        Hand {
+            paid,
+            history,
+            ..self
+        }
+    }
+
+    // The hand with the public card shown.
+    fn show(self, rank: u8) -> Hand
+        ensures { result ≡ shows rank self }
+    {
+        Hand {
+            history: History {
+                public: Some(rank),
+                ..self.history
+            },
+            ..self
+        }
+    }
+
+    // A place where a player is to choose, its sight not numbered yet.
+    fn choice(self, who: Player) -> Place
+        ensures { result ≡ seat unnumbered unnumbered who (sight_of who self) }
+    {
+        match who {
+            Player::House => Place::House(
+                Sight {
+                    own: self.house,
+                    history: self.history,
+                },
+                0,
+            ),
+            Player::Guest => Place::Guest(
+                Sight {
+                    own: self.guest,
+                    history: self.history,
+                },
+                0,
+            ),
+        }
+    }
 }
 
 // What follows a round of betting.
 trait Follow {
+    // What is written after this hand
     ghost then: { Self → Hand → Play };
 
     // How much more has to fit each number of the hand
-    ghost spare: { ℕ };
+    ghost spare: { Self → ℕ };
 
-    // What has to hold of the follower
-    ghost able: { Self → Type 0 };
-
-    fn follow(self, out: &mut [Node], at: usize, hand: Hand) -> usize
-        requires able { able self }
-        requires room { at + size (then self hand) ≤ length out.old }
-        requires small { length out.old ≤ 65536 }
-        requires fair { Fair spare hand }
-        ensures { Written 0 (then self hand) at out.old out.new result };
+    fn follow(self, out: &mut Writer<'_>, hand: Hand)
+        requires room { HasRoom out.old (then self hand) }
+        requires fair { Fair (spare self) hand }
+        ensures { Wrote 0 (then self hand) out.old out.new };
 }
 
-// The choices after a bet, where so many raises may still be made.
-fn answers<F: Follow + Copy>(
+// A round of betting: what is played for, how many raises may be made, and what follows.
+#[derive(Clone, Copy)]
+struct Betting<F> {
     next: F,
-    out: &mut [Node],
-    at: usize,
     stakes: Stakes,
     raises: u8,
-    who: Player,
-    hand: Hand,
-) -> usize
-    requires able { F.able next }
-    requires room { at + size (answers_as stakes.purse stakes.bet (F.then next) raises who hand) ≤ length out.old }
-    requires small { length out.old ≤ 65536 }
-    requires fair { Fair (10 * raises + F.spare) hand }
-    requires stakes { (stakes.purse ≤ 1000) × (stakes.bet ≤ 10) }
-    ensures { Written 0 (answers_as stakes.purse stakes.bet (F.then next) raises who hand) at out.old out.new result }
-{
-    let owed = due(who, hand.paid);
-    let mut k = over(out, at + 1, 0, won_by(stakes.purse, other(who), hand));
-    k = next.follow(out, k, acted(who, Act::Call, owed, hand));
-    if raises > 0 {
-        k = answers(
-            next,
-            out,
-            k,
-            stakes,
-            raises - 1,
-            other(who),
-            acted(who, Act::Raise, owed + stakes.bet, hand),
-        );
+}
+
+impl<F: Follow + Copy> Betting<F> {
+    // The choices after a bet.
+    fn answers(self, out: &mut Writer<'_>, who: Player, hand: Hand)
+        requires room { HasRoom out.old (answers_as self.stakes.purse self.stakes.bet (F.then self.next) self.raises who hand) }
+        requires fair { Fair (10 * self.raises + F.spare self.next) hand }
+        ensures { Wrote 0 (answers_as self.stakes.purse self.stakes.bet (F.then self.next) self.raises who hand) out.old out.new }
+    {
+        let at = out.skip();
+        let owed = hand.paid.due(who);
+        let ends = self.stakes.won_by(who.other(), hand);
+        out.over(0, ends);
+        self.next.follow(out, hand.acted(who, Act::Call, owed));
+        if self.raises > 0 {
+            let fewer = Betting {
+                raises: self.raises - 1,
+                ..self
+            };
+            let raised = hand.acted(who, Act::Raise, owed + self.stakes.bet);
+            fewer.answers(out, who.other(), raised);
+        }
+        out.close(at, hand.choice(who), 0);
     }
-    out[at] = Node {
-        place: choice(who, hand),
-        share: 0,
-        size: (k - at) as u32,
-    };
-    k
+
+    // The choices where there is nothing to call, with what follows a check.
+    fn opens<C: Follow + Copy>(
+        self,
+        checks: C,
+        out: &mut Writer<'_>,
+        share: u32,
+        who: Player,
+        hand: Hand,
+    )
+        requires room { HasRoom out.old (opens_as self.stakes.purse self.stakes.bet (F.then self.next) self.raises (C.then checks) who hand) }
+        requires check { Fair (10 + C.spare checks) hand }
+        requires bet { Fair (10 + (10 * self.raises + F.spare self.next)) hand }
+        ensures { Wrote share (opens_as self.stakes.purse self.stakes.bet (F.then self.next) self.raises (C.then checks) who hand) out.old out.new }
+    {
+        let at = out.skip();
+        checks.follow(out, hand.acted(who, Act::Check, 0));
+        let bet = hand.acted(who, Act::Bet, self.stakes.bet);
+        self.answers(out, who.other(), bet);
+        out.close(at, hand.choice(who), share);
+    }
+
+    // The whole round.
+    fn round(self, out: &mut Writer<'_>, share: u32, who: Player, hand: Hand)
+        requires room { HasRoom out.old (round_as self.stakes.purse self.stakes.bet (F.then self.next) self.raises who hand) }
+        requires fair { Fair (20 + (10 * self.raises + F.spare self.next)) hand }
+        ensures { Wrote share (round_as self.stakes.purse self.stakes.bet (F.then self.next) self.raises who hand) out.old out.new }
+    {
+        let checks = Checked {
+            betting: self,
+            who: who.other(),
+        };
+        self.opens(checks, out, share, who, hand);
+    }
 }
 
-// The choices after a check of the other player.
-fn checked<F: Follow + Copy>(
-    next: F,
-    out: &mut [Node],
-    at: usize,
-    stakes: Stakes,
-    raises: u8,
+// After a check: the choices of the other player, whose check ends the round.
+#[derive(Clone, Copy)]
+struct Checked<F> {
+    betting: Betting<F>,
     who: Player,
-    hand: Hand,
-) -> usize
-    requires able { F.able next }
-    requires room { at + size (opens_as stakes.purse stakes.bet (F.then next) raises (F.then next) who hand) ≤ length out.old }
-    requires small { length out.old ≤ 65536 }
-    requires fair { Fair (10 + (10 * raises + F.spare)) hand }
-    requires stakes { (stakes.purse ≤ 1000) × (stakes.bet ≤ 10) }
-    ensures { Written 0 (opens_as stakes.purse stakes.bet (F.then next) raises (F.then next) who hand) at out.old out.new result }
-{
-    let mut k = next.follow(out, at + 1, acted(who, Act::Check, 0, hand));
-    k = answers(
-        next,
-        out,
-        k,
-        stakes,
-        raises,
-        other(who),
-        acted(who, Act::Bet, stakes.bet, hand),
-    );
-    out[at] = Node {
-        place: choice(who, hand),
-        share: 0,
-        size: (k - at) as u32,
-    };
-    k
 }
 
-// A round of betting.
-fn round<F: Follow + Copy>(
-    next: F,
-    out: &mut [Node],
-    at: usize,
-    share: u32,
-    stakes: Stakes,
-    raises: u8,
-    who: Player,
-    hand: Hand,
-) -> usize
-    requires able { F.able next }
-    requires room { at + size (round_as stakes.purse stakes.bet (F.then next) raises who hand) ≤ length out.old }
-    requires small { length out.old ≤ 65536 }
-    requires fair { Fair (20 + (10 * raises + F.spare)) hand }
-    requires stakes { (stakes.purse ≤ 1000) × (stakes.bet ≤ 10) }
-    ensures { Written share (round_as stakes.purse stakes.bet (F.then next) raises who hand) at out.old out.new result }
-{
-    let mut k = checked(
-        next,
-        out,
-        at + 1,
-        stakes,
-        raises,
-        other(who),
-        acted(who, Act::Check, 0, hand),
-    );
-    k = answers(
-        next,
-        out,
-        k,
-        stakes,
-        raises,
-        other(who),
-        acted(who, Act::Bet, stakes.bet, hand),
-    );
-    out[at] = Node {
-        place: choice(who, hand),
-        share,
-        size: (k - at) as u32,
-    };
-    k
+impl<F: Follow + Copy> Follow for Checked<F> {
+    ghost then = { λ s h. opens_as s.betting.stakes.purse s.betting.stakes.bet (F.then s.betting.next) s.betting.raises (F.then s.betting.next) s.who h };
+
+    ghost spare = { λ s. 10 + (10 * s.betting.raises + F.spare s.betting.next) };
+
+    fn follow(self, out: &mut Writer<'_>, hand: Hand) {
+        let betting = self.betting;
+        betting.opens(betting.next, out, 0, self.who, hand);
+    }
 }
 
 // What a dealt card leads to.
 trait Card {
+    // What follows a card of this rank
     ghost after: { Self → ℕ → Play };
 
+    // What has to hold of the rank
     ghost ready: { Self → ℕ → Type 0 };
 
-    fn lead(self, out: &mut [Node], at: usize, rank: u8, share: u32) -> usize
+    fn lead(self, out: &mut Writer<'_>, rank: u8, share: u32)
         requires ready { ready self rank }
-        requires room { at + size (after self rank) ≤ length out.old }
-        requires small { length out.old ≤ 65536 }
-        ensures { Written share (after self rank) at out.old out.new result };
+        requires room { HasRoom out.old (after self rank) }
+        ensures { Wrote share (after self rank) out.old out.new };
 }
 
 // A deal, with a tree for each rank that is left.
-fn deal<C: Card + Copy>(
-    card: C,
-    out: &mut [Node],
-    at: usize,
-    share: u32,
-    deck: [u8; 13],
-    ranks: u8,
-) -> usize
-    requires ready { (r : ℕ) → r < ranks → 0 < slice_index deck r → C.ready card r }
-    requires room { at + size (deals_as (take ranks deck) (C.after card)) ≤ length out.old }
-    requires small { length out.old ≤ 65536 }
-    requires ranks { ranks ≤ 13 }
-    ensures { Written share (deals_as (take ranks deck) (C.after card)) at out.old out.new result }
+fn deal<C: Card + Copy>(card: C, out: &mut Writer<'_>, share: u32, deck: Deck)
+    requires ready { (r : ℕ) → 0 < slice_index (cards_of deck) r → C.ready card r }
+    requires room { HasRoom out.old (deals_as (cards_of deck) (C.after card)) }
+    ensures { Wrote share (deals_as (cards_of deck) (C.after card)) out.old out.new }
 {
-    let mut k = at + 1;
+    let at = out.skip();
     let mut cards: u32 = 0;
-    for r in 0..ranks {
-        let left = deck[r as usize] as u32;
+    for (rank, copies) in deck.cards().iter().enumerate() {
+        let left = *copies as u32;
         if left > 0 {
-            k = card.lead(out, k, r, left);
+            card.lead(out, rank as u8, left);
             cards += left;
         }
     }
-    out[at] = Node {
-        place: Place::Deal(cards),
-        share,
-        size: (k - at) as u32,
-    };
-    k
+    out.close(at, Place::Deal(cards), share);
 }
 
 // A showdown: the player who alone has the public card's rank wins, else the higher rank.
 #[derive(Clone, Copy)]
 struct Showdown {
-    purse: u32,
+    stakes: Stakes,
     public: Option<u8>,
 }
 
-// What each player has after a showdown.
-fn settled(purse: u32, public: Option<u8>, hand: Hand) -> Ends
-    requires { (Fair 0 hand) × (purse ≤ 1000) }
-    ensures { result ≡ settled_as purse public hand }
-{
-    if let Some(rank) = public {
-        if hand.house == rank && hand.guest != rank {
-            return won_by(purse, Player::House, hand);
+impl Showdown {
+    // What each player has after it.
+    fn settled(self, hand: Hand) -> Ends
+        requires { Fair 0 hand }
+        ensures { result ≡ settled_as self.stakes.purse self.public hand }
+    {
+        let stakes = self.stakes;
+        if let Some(rank) = self.public {
+            if hand.house == rank && hand.guest != rank {
+                return stakes.won_by(Player::House, hand);
+            }
+            if hand.guest == rank && hand.house != rank {
+                return stakes.won_by(Player::Guest, hand);
+            }
         }
-        if hand.guest == rank && hand.house != rank {
-            return won_by(purse, Player::Guest, hand);
+        if hand.guest < hand.house {
+            return stakes.won_by(Player::House, hand);
         }
-    }
-    if hand.guest < hand.house {
-        return won_by(purse, Player::House, hand);
-    }
-    if hand.house < hand.guest {
-        return won_by(purse, Player::Guest, hand);
-    }
-    Ends {
-        house: purse,
-        guest: purse,
+        if hand.house < hand.guest {
+            return stakes.won_by(Player::Guest, hand);
+        }
+        let purse = stakes.purse;
+        Ends {
+            house: purse,
+            guest: purse,
+        }
     }
 }
 
 impl Follow for Showdown {
-    ghost then = { λ s h. end (settled_as s.purse s.public h) };
+    ghost then = { λ s h. end (settled_as s.stakes.purse s.public h) };
 
-    ghost spare = { 0 };
+    ghost spare = { λ s. 0 };
 
-    ghost able = { λ s. s.purse ≤ 1000 };
+    fn follow(self, out: &mut Writer<'_>, hand: Hand) {
+        out.over(0, self.settled(hand));
+    }
+}
 
-    fn follow(self, out: &mut [Node], at: usize, hand: Hand) -> usize {
-        over(out, at, 0, settled(self.purse, self.public, hand))
+// The places of a round of betting, where so many follow each end without a fold.
+fn round_places(raises: u8, follow: u32) -> u32
+    requires raises { raises ≤ 3 }
+    requires follow { follow ≤ 1000 }
+    ensures value { result ≡ bet_size raises follow }
+    ensures most { result ≤ 10 + 9 * follow + 8 }
+{
+    let answers = (raises as u32 + 1) * (2 + follow);
+    2 + follow + 2 * answers
+}
+
+// The game of a rule sheet within its ranges.
+#[derive(Clone, Copy)]
+struct Game {
+    sheet: Sheet,
+    ghost sound: { Sound sheet },
+}
+
+impl Game {
+    // T: the tokens that each player sits down with.
+    fn purse(self) -> u32
+        ensures value { result ≡ purse_of self.sheet }
+        ensures most { result ≤ 1000 }
+    {
+        let sheet = self.sheet;
+        let x = 1 + sheet.raises as u32;
+        let first = sheet.bets.ante as u32 + sheet.bets.first as u32 * x;
+        if sheet.public {
+            first + sheet.bets.second as u32 * x
+        } else {
+            first
+        }
+    }
+
+    // What is played for in a round with this bet.
+    fn stakes(self, bet: u8) -> Stakes
+        requires { bet ≤ 10 }
+        ensures purse { result.purse ≡ purse_of self.sheet }
+        ensures bet { result.bet ≡ bet }
+    {
+        Stakes {
+            purse: self.purse(),
+            bet: bet as u32,
+        }
+    }
+
+    // The whole deck.
+    fn deck(self) -> Deck
+        ensures { cards_of result ≡ replicate self.sheet.ranks self.sheet.copies }
+    {
+        Deck::full(self.sheet.ranks, self.sheet.copies)
+    }
+
+    // The places from the first round on.
+    fn count_first(self, deck: Deck) -> u32
+        ensures value { result ≡ first_size self.sheet (cards_of deck) }
+        ensures most { result ≤ 6000 }
+    {
+        let raises = self.sheet.raises;
+        let last = round_places(raises, 1);
+        if self.sheet.public {
+            round_places(raises, 1 + deck.ranks_left() * last)
+        } else {
+            last
+        }
+    }
+
+    // The places from the guest's card on.
+    fn count_guest(self, deck: Deck) -> u32
+        ensures value { (a : ℕ) → result ≡ size (guest_deal self.sheet (cards_of deck) a) }
+        ensures most { result ≤ 80000 }
+    {
+        deck.places(
+            |rank: u8| -> u32
+                requires { 0 < slice_index (cards_of deck) rank }
+                ensures value { result ≡ first_size self.sheet (without rank (cards_of deck)) }
+                ensures most { result ≤ 6000 }
+            { self.count_first(deck.without(rank)) },
+        )
+    }
+
+    // The places of the whole tree.
+    fn count(self) -> u32
+        ensures { result ≡ size (game_as self.sheet) }
+    {
+        let deck = self.deck();
+        deck.places(
+            |rank: u8| -> u32
+                requires { 0 < slice_index (cards_of deck) rank }
+                ensures value { result ≡ size (guest_deal self.sheet (without rank (cards_of deck)) rank) }
+                ensures most { result ≤ 80000 }
+            { self.count_guest(deck.without(rank)) },
+        )
+    }
+
+    // How many sights each player has.
+    fn sight_count(self) -> u32
+        ensures { result ≡ count_of_sights self.sheet }
+    {
+        let sheet = self.sheet;
+        let ranks = sheet.ranks as u32;
+        let raises = sheet.raises as u32;
+        let shown = if sheet.copies == 1 { ranks - 1 } else { ranks };
+        let second = if sheet.public {
+            (2 * raises + 3) * shown
+        } else {
+            0
+        };
+        ranks * (raises + 2) * (1 + second)
+    }
+
+    // How many words a hand has that is played from this player's chair.
+    fn word_count(self, who: Player) -> u32
+        ensures { result ≡ word_count self.sheet who }
+    {
+        let sheet = self.sheet;
+        let raises = sheet.raises as u32;
+        let turns = if who == sheet.begins {
+            (raises + 4) / 2
+        } else {
+            (raises + 3) / 2
+        };
+        2 + turns + if sheet.public { 1 + turns } else { 0 }
     }
 }
 
 // A card that is shown to both, with the round that follows.
 #[derive(Clone, Copy)]
 struct PublicCard {
-    sheet: Sheet,
+    game: Game,
     hand: Hand,
-}
-
-// T: the tokens that each player sits down with.
-fn purse(sheet: Sheet) -> u32
-    requires { Sound sheet }
-    ensures { (result ≡ purse_of sheet) × (result ≤ 1000) }
-{
-    let x = 1 + sheet.raises as u32;
-    let first = sheet.bets.ante as u32 + sheet.bets.first as u32 * x;
-    if sheet.public {
-        first + sheet.bets.second as u32 * x
-    } else {
-        first
-    }
-}
-
-// The hand with the public card shown.
-fn show(hand: Hand, rank: u8) -> Hand
-    ensures { result ≡ shows rank hand }
-{
-    let h = hand.history;
-    Hand {
-        house: hand.house,
-        guest: hand.guest,
-        paid: hand.paid,
-        history: History {
-            first: h.first,
-            public: Some(rank),
-            second: h.second,
-        },
-    }
+    ghost fair: { Fair 50 hand },
 }
 
 impl Card for PublicCard {
-    ghost after = { λ s r. shown_as s.sheet r s.hand };
+    ghost after = { λ s r. shown_as s.game.sheet r s.hand };
 
-    ghost ready = { λ s r. Sound s.sheet × Fair 50 s.hand };
+    ghost ready = { λ s r. Unit {0} };
 
-    fn lead(self, out: &mut [Node], at: usize, rank: u8, share: u32) -> usize {
-        let sheet = self.sheet;
+    fn lead(self, out: &mut Writer<'_>, rank: u8, share: u32) {
+        let sheet = self.game.sheet;
         let begins = sheet.begins;
-        let purse = purse(sheet);
-        let stakes = Stakes {
-            purse,
-            bet: sheet.bets.second as u32,
-        };
-        round(
-            Showdown {
-                purse,
-                public: Some(rank),
-            },
-            out,
-            at,
-            share,
+        let stakes = self.game.stakes(sheet.bets.second);
+        let next = Showdown {
             stakes,
-            sheet.raises,
-            begins,
-            show(self.hand, rank),
-        )
+            public: Some(rank),
+        };
+        let betting = Betting {
+            next,
+            stakes,
+            raises: sheet.raises,
+        };
+        betting.round(out, share, begins, self.hand.show(rank));
     }
 }
 
 // The deal of the public card.
 #[derive(Clone, Copy)]
 struct PublicDeal {
-    sheet: Sheet,
-    deck: [u8; 13],
+    game: Game,
+    deck: Deck,
 }
 
 impl Follow for PublicDeal {
-    ghost then = { λ s h. second_as s.sheet (take s.sheet.ranks s.deck) h };
+    ghost then = { λ s h. second_as s.game.sheet (cards_of s.deck) h };
 
-    ghost spare = { 50 };
+    ghost spare = { λ s. 50 };
 
-    ghost able = { λ s. Sound s.sheet };
-
-    fn follow(self, out: &mut [Node], at: usize, hand: Hand) -> usize {
-        deal(
-            PublicCard {
-                sheet: self.sheet,
-                hand,
-            },
-            out,
-            at,
-            0,
-            self.deck,
-            self.sheet.ranks,
-        )
+    fn follow(self, out: &mut Writer<'_>, hand: Hand) {
+        let card = PublicCard {
+            game: self.game,
+            hand,
+        };
+        deal(card, out, 0, self.deck);
     }
-}
-
-// A hand as the betting begins.
-fn seated(ante: u8, house: u8, guest: u8) -> Hand
-    requires { ante ≤ 10 }
-    ensures { (result ≡ sits ante house guest) × (Fair 100 result) }
-{
-    let none = Line { checks: 0, bets: 0 };
-    Hand {
-        house,
-        guest,
-        paid: Paid {
-            house: ante as u32,
-            guest: ante as u32,
-        },
-        history: History {
-            first: none,
-            public: None,
-            second: none,
-        },
-    }
-}
-
-// The deck without a card of this rank.
-fn drawn(deck: [u8; 13], rank: u8) -> [u8; 13]
-    requires { (rank < 13) × (0 < slice_index deck rank) }
-    ensures { result ≡ without rank deck }
-{
-    let mut left = deck;
-    left[rank as usize] -= 1;
-    left
 }
 
 // The card of the guest, after the house's.
 #[derive(Clone, Copy)]
 struct GuestCard {
-    sheet: Sheet,
+    game: Game,
     house: u8,
-    deck: [u8; 13],
+    deck: Deck,
 }
 
 impl Card for GuestCard {
-    ghost after = { λ s b. first_as s.sheet (take s.sheet.ranks (without b s.deck)) (sits s.sheet.bets.ante s.house b) };
+    ghost after = { λ s b. first_as s.game.sheet (without b (cards_of s.deck)) (sits s.game.sheet.bets.ante s.house b) };
 
-    ghost ready = { λ s r. Sound s.sheet × ((r < 13) × (0 < slice_index s.deck r)) };
+    ghost ready = { λ s r. 0 < slice_index (cards_of s.deck) r };
 
-    fn lead(self, out: &mut [Node], at: usize, rank: u8, share: u32) -> usize {
-        let sheet = self.sheet;
-        let deck = drawn(self.deck, rank);
-        let hand = seated(sheet.bets.ante, self.house, rank);
-        let purse = purse(sheet);
-        let stakes = Stakes {
-            purse,
-            bet: sheet.bets.first as u32,
-        };
+    fn lead(self, out: &mut Writer<'_>, rank: u8, share: u32) {
+        let game = self.game;
+        let sheet = game.sheet;
+        let deck = self.deck.without(rank);
+        let hand = Hand::seated(sheet.bets.ante, self.house, rank);
+        let stakes = game.stakes(sheet.bets.first);
         if sheet.public {
-            round(
-                PublicDeal { sheet, deck },
-                out,
-                at,
-                share,
+            let next = PublicDeal { game, deck };
+            let betting = Betting {
+                next,
                 stakes,
-                sheet.raises,
-                sheet.begins,
-                hand,
-            )
+                raises: sheet.raises,
+            };
+            betting.round(out, share, sheet.begins, hand);
         } else {
             let raises = sheet.raises;
-            round(
-                Showdown {
-                    purse,
-                    public: None,
-                },
-                out,
-                at,
-                share,
+            let next = Showdown {
+                stakes,
+                public: None,
+            };
+            let betting = Betting {
+                next,
                 stakes,
                 raises,
-                sheet.begins,
-                hand,
-            )
+            };
+            betting.round(out, share, sheet.begins, hand);
         }
     }
 }
@@ -693,106 +719,35 @@ impl Card for GuestCard {
 // The card of the house.
 #[derive(Clone, Copy)]
 struct HouseCard {
-    sheet: Sheet,
-    deck: [u8; 13],
+    game: Game,
+    deck: Deck,
 }
 
 impl Card for HouseCard {
-    ghost after = { λ s a. second_card s.sheet s.deck a };
+    ghost after = { λ s a. guest_deal s.game.sheet (without a (cards_of s.deck)) a };
 
-    ghost ready = { λ s r. Sound s.sheet × ((r < 13) × (0 < slice_index s.deck r)) };
+    ghost ready = { λ s r. 0 < slice_index (cards_of s.deck) r };
 
-    fn lead(self, out: &mut [Node], at: usize, rank: u8, share: u32) -> usize {
-        let deck = drawn(self.deck, rank);
-        deal(
-            GuestCard {
-                sheet: self.sheet,
-                house: rank,
-                deck,
-            },
-            out,
-            at,
-            share,
+    fn lead(self, out: &mut Writer<'_>, rank: u8, share: u32) {
+        let deck = self.deck.without(rank);
+        let card = GuestCard {
+            game: self.game,
+            house: rank,
             deck,
-            self.sheet.ranks,
-        )
+        };
+        deal(card, out, share, deck);
     }
 }
 
 // The whole tree, its sights not numbered yet.
-fn written(sheet: Sheet, out: &mut [Node]) -> usize
-    requires sound { Sound sheet }
-    requires room { size (game_as sheet) ≤ length out.old }
-    requires small { length out.old ≤ 65536 }
-    ensures { Written 0 (game_as sheet) 0 out.old out.new result }
+fn written(game: Game, nodes: &mut [Node])
+    requires room { size (game_as game.sheet) ≤ length nodes.old }
+    requires small { length nodes.old ≤ 65536 }
+    ensures { Written 0 (game_as game.sheet) 0 nodes.old nodes.new (size (game_as game.sheet)) }
 {
-    let deck = [sheet.copies; 13];
-    deal(HouseCard { sheet, deck }, out, 0, 0, deck, sheet.ranks)
-}
-
-// The places of a round of betting, where so many follow each end without a fold.
-fn betting(raises: u8, follow: u32) -> u32
-    requires { (raises ≤ 3) × (follow ≤ 1000) }
-    ensures { (result ≡ bet_size raises follow) × (result ≤ 10 + 9 * follow + 8) }
-{
-    let answers = (raises as u32 + 1) * (2 + follow);
-    2 + follow + 2 * answers
-}
-
-// How many ranks are left.
-fn ranks_left(deck: [u8; 13], ranks: u8) -> u32
-    requires { ranks ≤ 13 }
-    ensures { (result ≡ length (left_of (take ranks deck))) × (result ≤ 13) }
-{
-    let mut n: u32 = 0;
-    for r in 0..ranks {
-        if deck[r as usize] > 0 {
-            n += 1;
-        }
-    }
-    n
-}
-
-// The places from the first round on.
-fn count_first(sheet: Sheet, deck: [u8; 13]) -> u32
-    requires { Sound sheet }
-    ensures { (result ≡ first_size sheet (take sheet.ranks deck)) × (result ≤ 6000) }
-{
-    if sheet.public {
-        let shown = betting(sheet.raises, 1);
-        betting(sheet.raises, 1 + ranks_left(deck, sheet.ranks) * shown)
-    } else {
-        betting(sheet.raises, 1)
-    }
-}
-
-// The places from the guest's card on.
-fn count_guest(sheet: Sheet, deck: [u8; 13]) -> u32
-    requires { Sound sheet }
-    ensures { (((a : ℕ) → result ≡ size (guest_card sheet deck a))) × (result ≤ 80000) }
-{
-    let mut n: u32 = 1;
-    for b in 0..sheet.ranks {
-        if deck[b as usize] > 0 {
-            n += count_first(sheet, drawn(deck, b));
-        }
-    }
-    n
-}
-
-// The places of the whole tree.
-fn count(sheet: Sheet) -> u32
-    requires { Sound sheet }
-    ensures { result ≡ size (game_as sheet) }
-{
-    let deck = [sheet.copies; 13];
-    let mut n: u32 = 1;
-    for a in 0..sheet.ranks {
-        if deck[a as usize] > 0 {
-            n += count_guest(sheet, drawn(deck, a));
-        }
-    }
-    n
+    let deck = game.deck();
+    let mut out = Writer::new(nodes);
+    deal(HouseCard { game, deck }, &mut out, 0, deck);
 }
 
 // The sight of this player at a place.
@@ -802,15 +757,11 @@ fn seen_at(who: Player, place: Place) -> Option<Sight>
     match (who, place) {
         (Player::House, Place::House(z, _)) => Some(z),
         (Player::Guest, Place::Guest(z, _)) => Some(z),
-        (Player::House, Place::Over(_)) => None,
-        (Player::House, Place::Deal(_)) => None,
-        (Player::House, Place::Guest(_, _)) => None,
-        (Player::Guest, Place::Over(_)) => None,
-        (Player::Guest, Place::Deal(_)) => None,
-        (Player::Guest, Place::House(_, _)) => None,
+        _ => None,
     }
 }
 
+// Kept: a table of slots on the stack and no map from sights to numbers, since this crate uses no heap.
 // Where a sight stands in a table.
 fn slot(z: Sight) -> usize
     ensures { result ≡ slot_of z }
@@ -835,8 +786,8 @@ fn collect(nodes: &[Node], who: Player, sights: &mut [Sight], table: &mut [u32])
     ensures table { Tabled (length table.old) table.new (noted [] (seen_in who nodes.now)) }
 {
     let mut n = 0;
-    for i in 0..nodes.len() {
-        if let Some(z) = seen_at(who, nodes[i].place) {
+    for node in nodes {
+        if let Some(z) = seen_at(who, node.place) {
             let k = slot(z);
             if table[k] == 0 {
                 sights[n] = z;
@@ -866,34 +817,26 @@ fn number(nodes: &mut [Node], house: &[u32], guest: &[u32])
     requires { (i : ℕ) → i < length nodes.old → Slotted house.now guest.now (node_at nodes.old i).place }
     ensures { nodes.new ≡ map (tabled_node house.now guest.now) nodes.old }
 {
-    for i in 0..nodes.len() {
-        let node = nodes[i];
-        nodes[i] = Node {
-            place: numbered(node.place, house, guest),
-            share: node.share,
-            size: node.size,
-        };
+    for node in nodes.iter_mut() {
+        node.place = numbered(node.place, house, guest);
     }
 }
 
-// Notes and numbers the sights of both players, by a table for each that begins with zeros.
-fn index(
-    nodes: &mut [Node],
-    house: &mut [Sight],
-    guest: &mut [Sight],
-    ours: &mut [u32],
-    theirs: &mut [u32],
-)
+// Notes and numbers the sights of both players, by a table of N slots for each.
+fn index<const N: usize>(nodes: &mut [Node], house: &mut [Sight], guest: &mut [Sight])
     requires few { length nodes.old ≤ 65536 }
-    requires ours { Ready nodes.old House (length house.old) ours.old }
-    requires theirs { Ready nodes.old Guest (length guest.old) theirs.old }
+    requires slots { N ≤ 40950 }
+    requires ours { Ready nodes.old House (length house.old) (replicate N 0) }
+    requires theirs { Ready nodes.old Guest (length guest.old) (replicate N 0) }
     ensures nodes { nodes.new ≡ map (numbered_node (noted [] (seen_in House nodes.old)) (noted [] (seen_in Guest nodes.old))) nodes.old }
     ensures house { Begins (noted [] (seen_in House nodes.old)) house.old house.new }
     ensures guest { Begins (noted [] (seen_in Guest nodes.old)) guest.old guest.new }
 {
-    let _ = collect(nodes, Player::House, house, ours);
-    let _ = collect(nodes, Player::Guest, guest, theirs);
-    number(nodes, ours, theirs);
+    let mut ours = [0u32; N];
+    let mut theirs = [0u32; N];
+    let _ = collect(nodes, Player::House, house, &mut ours);
+    let _ = collect(nodes, Player::Guest, guest, &mut theirs);
+    number(nodes, &ours, &theirs);
 }
 
 // The slots of all sights, and of those of a first round.
@@ -902,25 +845,20 @@ const SLOTS: usize = 40950;
 const FIRST_SLOTS: usize = 195;
 
 // Writes the tree and its sights into memory of its size.
-fn fill(sheet: Sheet, nodes: &mut [Node], house: &mut [Sight], guest: &mut [Sight])
-    requires sound { Sound sheet }
-    requires exact { length nodes.old ≡ count_of (game sheet) }
+fn fill(game: Game, nodes: &mut [Node], house: &mut [Sight], guest: &mut [Sight])
+    requires exact { length nodes.old ≡ count_of (game_of game.sheet) }
     requires few { length nodes.old ≤ 65536 }
-    requires house { length (sights House (game sheet)) ≤ length house.old }
-    requires guest { length (sights Guest (game sheet)) ≤ length guest.old }
-    ensures nodes { nodes.new ≡ nodes_of sheet }
-    ensures house { Begins (sights_of House (game_as sheet)) house.old house.new }
-    ensures guest { Begins (sights_of Guest (game_as sheet)) guest.old guest.new }
+    requires house { length (sights House (game_of game.sheet)) ≤ length house.old }
+    requires guest { length (sights Guest (game_of game.sheet)) ≤ length guest.old }
+    ensures nodes { nodes.new ≡ nodes_of game.sheet }
+    ensures house { Begins (sights_of House (game_as game.sheet)) house.old house.new }
+    ensures guest { Begins (sights_of Guest (game_as game.sheet)) guest.old guest.new }
 {
-    let _ = written(sheet, nodes);
-    if sheet.public {
-        let mut ours = [0u32; SLOTS];
-        let mut theirs = [0u32; SLOTS];
-        index(nodes, house, guest, &mut ours, &mut theirs);
+    written(game, nodes);
+    if game.sheet.public {
+        index::<SLOTS>(nodes, house, guest);
     } else {
-        let mut ours = [0u32; FIRST_SLOTS];
-        let mut theirs = [0u32; FIRST_SLOTS];
-        index(nodes, house, guest, &mut ours, &mut theirs);
+        index::<FIRST_SLOTS>(nodes, house, guest);
     }
 }
 
@@ -973,68 +911,27 @@ impl Refusal {
     }
 }
 
-// How many sights each player has.
-fn sight_count(sheet: Sheet) -> u32
-    requires { Sound sheet }
-    ensures { result ≡ count_of_sights sheet }
-{
-    let ranks = sheet.ranks as u32;
-    let raises = sheet.raises as u32;
-    let shown = if sheet.copies == 1 { ranks - 1 } else { ranks };
-    let second = if sheet.public {
-        (2 * raises + 3) * shown
-    } else {
-        0
-    };
-    ranks * (raises + 2) * (1 + second)
-}
-
-// Whether two players are one.
-fn same_player(a: Player, b: Player) -> bool
-    ensures { result ≡ is_same_player a b }
-{
-    match (a, b) {
-        (Player::House, Player::House) => true,
-        (Player::House, Player::Guest) => false,
-        (Player::Guest, Player::House) => false,
-        (Player::Guest, Player::Guest) => true,
-    }
-}
-
-// How many words a hand has that is played from this player's chair.
-fn word_count(sheet: Sheet, who: Player) -> u32
-    requires { Sound sheet }
-    ensures { result ≡ word_count sheet who }
-{
-    let raises = sheet.raises as u32;
-    let turns = if same_player(who, sheet.begins) {
-        (raises + 4) / 2
-    } else {
-        (raises + 3) / 2
-    };
-    2 + turns + if sheet.public { 1 + turns } else { 0 }
-}
-
 // How large the tree of a rule sheet is.
 pub fn measure(sheet: Sheet) -> Sizes
     requires { Sound sheet }
     ensures value { result ≡ sizes_of sheet }
     ensures tree { Measured sheet result }
 {
-    let sights = sight_count(sheet);
+    let game = Game { sheet };
+    let sights = game.sight_count();
     let house = Chair {
         sights,
-        words: word_count(sheet, Player::House),
+        words: game.word_count(Player::House),
     };
     let guest = Chair {
         sights,
-        words: word_count(sheet, Player::Guest),
+        words: game.word_count(Player::Guest),
     };
     Sizes {
-        places: count(sheet),
+        places: game.count(),
         house,
         guest,
-        table: 2 * purse(sheet),
+        table: 2 * game.purse(),
     }
 }
 
@@ -1042,12 +939,12 @@ pub fn measure(sheet: Sheet) -> Sizes
 pub fn at_most(n: u32, most: usize) -> Option<u32>
     ensures { result ≡ at_most n most }
 {
-    if n as usize <= most { Some(n) } else { None }
+    (n as usize <= most).then_some(n)
 }
 
-// The sizes, where places and sights fit the memory and there are not too many places.
-pub fn admit(sizes: Sizes, nodes: usize, house: usize, guest: usize) -> Result<Sizes, Refusal>
-    ensures { result ≡ admitted sizes nodes house guest }
+// The sizes, where places and sights fit their memory.
+pub fn fits(sizes: Sizes, nodes: usize, house: usize, guest: usize) -> Result<Sizes, Refusal>
+    ensures { result ≡ fitted sizes nodes house guest }
 {
     let Some(_) = at_most(sizes.places, nodes) else {
         return Err(Refusal::NoRoom);
@@ -1058,10 +955,25 @@ pub fn admit(sizes: Sizes, nodes: usize, house: usize, guest: usize) -> Result<S
     let Some(_) = at_most(sizes.guest.sights, guest) else {
         return Err(Refusal::NoSightRoom);
     };
+    Ok(sizes)
+}
+
+// The sizes, where there are not too many places.
+pub fn few(sizes: Sizes) -> Result<Sizes, Refusal>
+    ensures { result ≡ limited sizes }
+{
     let Some(_) = at_most(sizes.places, 65536) else {
         return Err(Refusal::TooLarge);
     };
     Ok(sizes)
+}
+
+// The sizes, where places and sights fit the memory and there are not too many places.
+pub fn admit(sizes: Sizes, nodes: usize, house: usize, guest: usize) -> Result<Sizes, Refusal>
+    ensures { result ≡ admitted sizes nodes house guest }
+{
+    let fitting = fits(sizes, nodes, house, guest)?;
+    few(fitting)
 }
 
 // Writes the tree of a rule sheet and the sights of each player, or refuses and touches nothing.
@@ -1077,6 +989,11 @@ pub fn build(
     ensures tree { Measured sheet (sizes_of sheet) }
 {
     let sizes = admit(measure(sheet), nodes.len(), house.len(), guest.len())?;
-    fill(sheet, &mut nodes[0..sizes.places as usize], house, guest);
+    fill(
+        Game { sheet },
+        &mut nodes[0..sizes.places as usize],
+        house,
+        guest,
+    );
     Ok(sizes)
 }

@@ -1,5 +1,5 @@
-use Rattle.std.proofs.Common.{◌≡◌, ℕ, ◌+◌, ◌<◌, ◌≤◌, List, [], ◌∷◌, ◌++◌, length, get_or, take, Some, sym, refl, ap, ◌∙◌, arith}
-use Rattle.std.proofs.lemmas.List.{take_all, length_push}
+use Rattle.std.proofs.Common.{◌≡◌, ℕ, ◌+◌, ◌<◌, ◌≤◌, List, [], ◌∷◌, ◌++◌, length, get_or, Some, sym, ap, ◌∙◌, arith}
+use Rattle.std.proofs.lemmas.List.{length_push}
 use Rattle.tree.specs.declared.Sight.{Sight}
 use Rattle.rules.specs.declared.Player.{Player}
 use Rattle.tree.specs.declared.Node.{Node}
@@ -12,8 +12,8 @@ use Rattle.tree.proofs.Tables.{tabled_new, tabled_same, entry_none, entry_some}
 use Rattle.tree.proofs.collect.Goals as goal
 use Rattle.tree.proofs.collect.Goals.{in-Some+then-table-k-eq0, in-Some+else-table-k-eq0, in_default}
 
-pub loop-i-init : goal.loop-i-init
-loop-i-init c = (noted_none _ (put_nil _ 0), (omega arith, λ z r. c.requires.zeros _))
+pub loop-node-init : goal.loop-node-init
+loop-node-init c = (noted_none _ (put_nil _ 0), (omega arith, λ z r. c.requires.zeros _))
 
 meet : (zs s0 s t : List Sight) (n m : ℕ) → s ≡ t → n ≡ m → Noted zs s0 t m → Noted zs s0 s n
 meet zs s0 s t n m es en q = record { count = en ∙ q.count; holds = es ∙ q.holds }
@@ -28,58 +28,46 @@ fresh W N I d z t n room h e at zero en l =
     let m = list_most W N (I + 1) in
     (more, omega (arith, a, b, m))
 
-pub bounds-table-k : goal.bounds-table-k
-bounds-table-k c =
-    let seen = sym c.seen_at.ensures ∙ c.in-Some.is in
-    let r = c.requires.ranged c.loop-i.i c.in-Some.z c.loop-i-test.true seen in
-    omega (arith, r.inside, c.slot-k.ensures, c.loop-i.auto.table)
-
 pub bounds-sights-n : goal.bounds-sights-n
 bounds-sights-n c =
     let seen = sym c.seen_at.ensures ∙ c.in-Some.is in
-    let r = c.requires.ranged c.loop-i.i c.in-Some.z c.loop-i-test.true seen in
-    let at = ap (λ k. get_or c.loop-i.table k 0) c.slot-k.ensures ∙ c.loop-i.invariant.1.1 c.in-Some.z r in
-    let f = fresh c.args.who c.args.nodes.now c.loop-i.i _ c.in-Some.z _ c.loop-i.n _ c.loop-i-test.true seen at c.if-table-k-eq0.true c.loop-i.invariant.0.count c.requires.room in
-    omega (arith, f.1, c.loop-i.auto.sights)
+    let r = c.requires.ranged c.loop-node.node-index c.in-Some.z c.loop-node-test.true seen in
+    let at = ap (λ k. get_or c.loop-node.table k 0) c.slot-k.ensures ∙ c.loop-node.invariant.1.1 c.in-Some.z r in
+    let f = fresh c.args.who c.args.nodes.now c.loop-node.node-index _ c.in-Some.z _ c.loop-node.n _ c.loop-node-test.true seen at c.if-table-k-eq0.true c.loop-node.invariant.0.count c.requires.room in
+    omega (arith, f.1, c.loop-node.auto.sights)
 
-pub loop-i-preserved : goal.loop-i-preserved
-loop-i-preserved c =
+pub loop-node-preserved : goal.loop-node-preserved
+loop-node-preserved c =
     let W = c.args.who in
     let N = c.args.nodes.now in
-    let I = c.loop-i.i in
+    let I = c.loop-node.node-index in
     let S = length c.args.table.now in
-    let q = c.loop-i.invariant.0 in
-    let tab = c.loop-i.invariant.1.1 in
+    let q = c.loop-node.invariant.0 in
+    let tab = c.loop-node.invariant.1.1 in
     elim c.match-seen_at.branch [
       | in-Some+then-table-k-eq0 w ↦
           (let seen = sym c.seen_at.ensures ∙ w.in-Some.is in
-          let r = c.requires.ranged I w.in-Some.z c.loop-i-test.true seen in
-          let at = ap (λ k. get_or c.loop-i.table k 0) w.slot-k.ensures ∙ tab w.in-Some.z r in
-          let f = fresh W N I _ w.in-Some.z _ c.loop-i.n _ c.loop-i-test.true seen at w.if-table-k-eq0.true q.count c.requires.room in (
+          let r = c.requires.ranged I w.in-Some.z c.loop-node-test.true seen in
+          let at = ap (λ k. get_or c.loop-node.table k 0) w.slot-k.ensures ∙ tab w.in-Some.z r in
+          let f = fresh W N I _ w.in-Some.z _ c.loop-node.n _ c.loop-node-test.true seen at w.if-table-k-eq0.true q.count c.requires.room in (
             meet _ _ _ _ _ _ w.sights-is w.n-is
-                (noted_push (list W N I) (list W N (I + 1)) _ _ _ _ f.0 f.1 c.loop-i.auto.sights q),
+                (noted_push (list W N I) (list W N (I + 1)) _ _ _ _ f.0 f.1 c.loop-node.auto.sights q),
             (
-              omega (arith, w.n-is, c.loop-i.invariant.1.0),
-              tabled_new S _ _ (list W N I) (list W N (I + 1)) w.in-Some.z _ _ r w.slot-k.ensures (omega (arith, w.slot-k.ensures, r.inside, c.loop-i.auto.table)) w.if-table-k-eq0.true q.count w.table-is f.0 tab,
+              omega (arith, w.n-is, c.loop-node.invariant.1.0),
+              tabled_new S _ _ (list W N I) (list W N (I + 1)) w.in-Some.z _ _ r w.slot-k.ensures (omega (arith, w.slot-k.ensures, r.inside, c.loop-node.auto.table)) w.if-table-k-eq0.true q.count w.table-is f.0 tab,
             ),
           ))
       | in-Some+else-table-k-eq0 w ↦
           (let seen = sym c.seen_at.ensures ∙ w.in-Some.is in
-          let r = c.requires.ranged I w.in-Some.z c.loop-i-test.true seen in
-          let at = ap (λ k. get_or c.loop-i.table k 0) w.slot-k.ensures ∙ tab w.in-Some.z r in
-          let same = list_old W N I _ w.in-Some.z c.loop-i-test.true seen (entry_some w.in-Some.z (list W N I) _ at w.if-table-k-eq0.false) in (
+          let r = c.requires.ranged I w.in-Some.z c.loop-node-test.true seen in
+          let at = ap (λ k. get_or c.loop-node.table k 0) w.slot-k.ensures ∙ tab w.in-Some.z r in
+          let same = list_old W N I _ w.in-Some.z c.loop-node-test.true seen (entry_some w.in-Some.z (list W N I) _ at w.if-table-k-eq0.false) in (
             meet _ _ _ _ _ _ w.sights-is w.n-is (noted_same (list W N I) (list W N (I + 1)) _ _ _ same q),
-            (omega (arith, w.n-is, c.loop-i.invariant.1.0), tabled_same S _ _ (list W N I) (list W N (I + 1)) w.table-is same tab),
+            (omega (arith, w.n-is, c.loop-node.invariant.1.0), tabled_same S _ _ (list W N I) (list W N (I + 1)) w.table-is same tab),
           ))
       | in_default w ↦
-          (let same = list_pass W N I _ c.loop-i-test.true (sym c.seen_at.ensures ∙ w.in_default.is) in (
+          (let same = list_pass W N I _ c.loop-node-test.true (sym c.seen_at.ensures ∙ w.in_default.is) in (
             meet _ _ _ _ _ _ w.sights-is w.n-is (noted_same (list W N I) (list W N (I + 1)) _ _ _ same q),
-            (omega (arith, w.n-is, c.loop-i.invariant.1.0), tabled_same S _ _ (list W N I) (list W N (I + 1)) w.table-is same tab),
+            (omega (arith, w.n-is, c.loop-node.invariant.1.0), tabled_same S _ _ (list W N I) (list W N (I + 1)) w.table-is same tab),
           ))
     ]
-
-pub returns : goal.returns
-returns c =
-    let e : take c.loop-i.i c.args.nodes.now ≡ c.args.nodes.now = take_all c.loop-i.i c.args.nodes.now c.loop-i-test.false in
-    let all = ap (λ l. noted [] (seen_in c.args.who l)) (sym e) in
-    record { sights = noted_same _ _ _ _ _ all c.loop-i.invariant.0; table = tabled_same _ _ _ _ _ refl all c.loop-i.invariant.1.1 }

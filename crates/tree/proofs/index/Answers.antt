@@ -1,14 +1,12 @@
-use Rattle.std.proofs.Common.{◌∙◌}
-use Rattle.tree.proofs.Indexes.{noted_begins, tabled_numbered, all_slotted}
+use Rattle.std.proofs.Common.{replicate, ◌∙◌}
+use Rattle.tree.proofs.Indexes.{noted_begins, tabled_numbered}
 use Rattle.tree.proofs.index.Goals as goal
 
-pub number-requires : goal.number-requires
-number-requires c =
-    all_slotted c.args.nodes.now _ _ c.args.ours.now _ c.args.theirs.now _ c.requires.ours c.requires.theirs c.collect.ensures.table c.collect-2.ensures.table c.collect.auto.table c.collect-2.auto.table
-
 pub returns : goal.returns
-returns c = record {
-  nodes = c.number.ensures ∙ tabled_numbered c.args.nodes.now _ _ c.args.ours.now _ c.args.theirs.now _ c.requires.ours c.requires.theirs c.collect.ensures.table c.collect-2.ensures.table;
-  house = noted_begins _ _ _ _ c.collect.ensures.sights;
-  guest = noted_begins _ _ _ _ c.collect-2.ensures.sights;
-}
+returns g c =
+    let blank = replicate g.row.N 0 in
+    record {
+      nodes = c.number.ensures ∙ tabled_numbered c.args.nodes.now _ _ blank _ blank _ c.requires.ours c.requires.theirs c.collect.ensures.table c.collect-2.ensures.table;
+      house = noted_begins _ _ _ _ c.collect.ensures.sights;
+      guest = noted_begins _ _ _ _ c.collect-2.ensures.sights;
+    }
