@@ -4,3 +4,4 @@ pub mod Refusals
 pub mod Bases
 pub mod Bytes
 pub mod Stands
+pub mod Weights

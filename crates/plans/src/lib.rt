@@ -11,11 +11,12 @@ ghost use Rattle.plans.specs.Refusals.{number_of, place_of, Turned};
 ghost use Rattle.plans.specs.Bases.{divides, base_of, Based, size_of};
 ghost use Rattle.plans.specs.Bytes.{bytes_of, row_of, plan_as};
 ghost use Rattle.plans.specs.Stands.{PlansStand};
+ghost use Rattle.plans.specs.Weights.{weight_at, Weighable};
 
 use rules::Sheet;
 use std::alloc;
 use std::alloc::{AllocError, Global};
-use tree::Sight;
+use tree::{Node, Place, Sight};
 
 // The weights of one sight of the house, one for each choice; unused ones are 0.
 #[derive(Clone, Copy)]
@@ -224,6 +225,21 @@ pub fn read_plan(
         rest = &rest[4 * offers as usize..];
     }
     Ok(rows)
+}
+
+// The weight by which a deal or a choice of the house leads to its tree at `at`, the one after `k` others.
+pub fn weight(nodes: &[Node], rows: &[Row], m: u32, place: Place, at: usize, k: usize) -> u64
+    requires { Weighable nodes.now rows.now place at k }
+    ensures { result ≡ weight_at nodes.now rows.now m place at k }
+{
+    match place {
+        Place::Deal(parts) => m as u64 * nodes[at].share as u64 / parts as u64,
+        Place::House(_, sight) => {
+            let weights: &[u32] = &rows[sight as usize].weights;
+            weights[k] as u64
+        }
+        Place::Over(_) | Place::Guest(_, _) => 0,
+    }
 }
 
 // A plan that was read is a plan of the player whose sights it was read for.
