@@ -1,5 +1,7 @@
 -- Going from tree to tree by their sizes.
 use Rattle.std.proofs.Common.{◌≡◌, ℕ, zero, suc, ◌+◌, ◌<◌, ◌≤◌, List, [], ◌∷◌, length, Option, Some, None, MatchOption, refl, sym, ◌∙◌, subst, arith}
+use Rattle.std.proofs.Math.Logic.{∥∥₁_elim}
+use Rattle.std.specs.Coded.{le_prop}
 use Rattle.std.specs.Iterator.{Yields, SkipsThenYields, Drains}
 use Rattle.cards.specs.Game.{Tree, Trees, none, more, many}
 use Rattle.cards.specs.Reckon.{places, places_all}
@@ -10,11 +12,11 @@ use Rattle.tree.specs.Siblings.{SomeRoot, KidsLie, step, start}
 use Rattle.tree.specs.declared.kids.Kids.{Kids}
 use Rattle.tree.specs.declared.Node.{Node}
 
-pub root_inside : (nodes : List Node) (i : ℕ) → SomeRoot nodes i → (i < length nodes) × (i + (node_at nodes i).size ≤ length nodes)
-root_inside nodes i h =
+pub root_inside : (nodes : List Node) (i : ℕ) → ∥ SomeRoot nodes i ∥₁ → (i < length nodes) × (i + (node_at nodes i).size ≤ length nodes)
+root_inside nodes i some = ∥∥₁_elim some (hlevel le_prop) (λ h.
     let s = rep_size h.table h.base nodes i h.tree h.rep in
     let e = rep_end h.table h.base nodes i h.tree h.rep in
-    (rep_inside h.table h.base nodes i h.tree h.rep, omega arith)
+    (rep_inside h.table h.base nodes i h.tree h.rep, omega arith))
 
 -- where a tree is left, and what is left after it
 pub record Next (nodes : List Node) (i e : ℕ) : Type 0 where
@@ -22,7 +24,7 @@ pub record Next (nodes : List Node) (i e : ℕ) : Type 0 where
   pub some : 0 < (node_at nodes i).size
   pub within : i + (node_at nodes i).size ≤ length nodes
   pub few : i + (node_at nodes i).size ≤ e
-  pub lie : KidsLie nodes (i + (node_at nodes i).size) e
+  pub lie : ∥ KidsLie nodes (i + (node_at nodes i).size) e ∥₁
 
 next_of : (nodes : List Node) (i e table base : ℕ) (ts : Trees) → Reps table base nodes i ts → i + places_all ts ≡ e → i < e → Next nodes i e
 next_of nodes i e table base none reps ends lt = absurd (omega arith)
@@ -35,11 +37,11 @@ next_of nodes i e table base (more t ts) reps ends lt =
       some = omega arith;
       within = omega arith;
       few = omega arith;
-      lie = record { table = table; base = base; trees = ts; reps = subst (λ z. Reps table base nodes (i + z) ts) (sym s) reps.1; ends = omega arith };
+      lie = ∣ record { table = table; base = base; trees = ts; reps = subst (λ z. Reps table base nodes (i + z) ts) (sym s) reps.1; ends = omega arith } ∣₁;
     }
 
-pub kids_next : (nodes : List Node) (i e : ℕ) → KidsLie nodes i e → i < e → Next nodes i e
-kids_next nodes i e h lt = next_of nodes i e h.table h.base h.trees h.reps h.ends lt
+pub kids_next : (nodes : List Node) (i e : ℕ) → ∥ KidsLie nodes i e ∥₁ → i < e → Next nodes i e
+kids_next nodes i e some lt = ∥∥₁_elim some (hlevel le_prop) (λ h. next_of nodes i e h.table h.base h.trees h.reps h.ends lt)
 
 -- what calls of `next` give, from the trees that are left on
 abbrev pub kid_steps : Kids → Option ℕ → Kids → Type 0

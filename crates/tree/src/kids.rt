@@ -17,7 +17,7 @@ pub struct Kids<'a> {
 impl<'a> Kids<'a> {
     // Over the trees of the place at `at`.
     pub fn of(nodes: &'a [Node], at: usize) -> Kids<'a>
-        requires { SomeRoot nodes.now at }
+        requires { ∥ SomeRoot nodes.now at ∥₁ }
         ensures nodes { result.nodes.now ≡ nodes.now }
         ensures first { result.at ≡ at + 1 }
         ensures end { result.end ≡ at + (node_at nodes.now at).size }
@@ -33,7 +33,7 @@ impl<'a> Kids<'a> {
 impl Iterator for Kids<'_> {
     type Item = usize;
 
-    ghost can_next = { λ s. KidsLie s.nodes.now s.at s.end };
+    ghost can_next = { λ s. ∥ KidsLie s.nodes.now s.at s.end ∥₁ };
 
     ghost next_gives = { λ s r t. step s.nodes.now s.at s.end r t.nodes.now t.at t.end };
 
