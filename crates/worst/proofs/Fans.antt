@@ -11,7 +11,8 @@ use Rattle.tree.specs.Rep.{Rep, Reps, node_at}
 use Rattle.tree.specs.declared.Node.{Node}
 use Rattle.tree.specs.declared.Place.TheVariants.{Deal, House}
 use Rattle.tree.proofs.Reps.{rep_inside, some_parts}
-use Rattle.worst.specs.Items.{Chance, firsts, Told, told_plan, Fit, Fits, weight_at, Weighable}
+use Rattle.worst.specs.Items.{Chance, firsts, Told, told_plan, Fit, Fits}
+use Rattle.plans.specs.Weights.{weight_at, Weighable}
 use Rattle.worst.proofs.Lay.{weighed_reps, weighed_at, reps_nth}
 
 pub record Fan (w : Told) (nodes : List Node) (rows : List Row) (m n i : ℕ) (t : Tree) : Type 0 where

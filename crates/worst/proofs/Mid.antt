@@ -9,13 +9,16 @@ use Rattle.cards.specs.Reckon.{places, places_all, sure, sure_all, open', open_a
 use Rattle.cards.proofs.AtHand.{places_pos}
 use Rattle.plans.specs.declared.Row.{Row}
 use Rattle.tree.specs.Rep.{Rep, node_at, ends_of}
+use Rattle.tree.specs.Siblings.{Stepped}
 use Rattle.tree.specs.declared.Node.{Node}
+use Rattle.tree.specs.declared.kids.Kids.{Kids}
 use Rattle.tree.specs.declared.Sight.{Sight}
 use Rattle.tree.specs.declared.Place.{Place}
-use Rattle.tree.specs.declared.Place.TheVariants.{Over, Deal, House, Guest}
+use Rattle.tree.specs.declared.Place.TheVariants.{Over, Guest}
 use Rattle.tree.proofs.Reps.{rep_inside, rep_size, rep_end}
 use Rattle.rules.specs.declared.Ends.{Ends}
-use Rattle.worst.specs.Items.{Chance, firsts, Told, told_plan, Fit, Entries, weight_at, Weighable}
+use Rattle.worst.specs.Items.{Chance, firsts, Told, told_plan, Fit, Entries}
+use Rattle.plans.specs.Weights.{weight_at, Weighable}
 use Rattle.worst.specs.Spread.{Ready, SomeReady, Spread, Settles, settled, settled_row}
 use Rattle.worst.specs.declared.Entry.{Entry}
 use Rattle.worst.specs.declared.Grown.{Grown}
@@ -160,9 +163,30 @@ Inv nodes rows m powers len e before later k at g =
     (w : Told) (tree : Tree) (q : Ready w tree nodes rows m powers (length before) len e) (x : Fan w nodes rows m e.left e.at tree) →
     Mid w nodes rows m len e.at e.times x.rest x.trees x.weights before later k at g
 
-pub chance : (nodes : List Node) (i : ℕ) → ((n : ℕ) × ((node_at nodes i).place ≡ Deal n)) ⊎ ((z : Sight) × (j : ℕ) × ((node_at nodes i).place ≡ House z j)) → Chance (node_at nodes i).place
-chance nodes i (inl h) = subst Chance (sym h.1) tt
-chance nodes i (inr h) = subst Chance (sym h.2) tt
+-- where the iterator over the trees stands, after k of them
+pub record Along (nodes : List Node) (rows : List Row) (m : ℕ) (powers : List ℕ) (len : ℕ) (e : Entry) (before later : List Entry) (s : Kids) (k : ℕ) (g : Grown) : Type 0 where
+  pub nodes_are : s.nodes.now ≡ nodes
+  pub end : s.end ≡ e.at + (node_at nodes e.at).size
+  pub inv : Inv nodes rows m powers len e before later k s.at g
+
+pub along_none : (nodes : List Node) (rows : List Row) (m : ℕ) (powers : List ℕ) (len : ℕ) (e : Entry) (before : List Entry) (s : Kids) (k : ℕ) → s.nodes.now ≡ nodes → s.at ≡ e.at + 1 → s.end ≡ e.at + (node_at nodes e.at).size → k ≡ 0 →
+    Along nodes rows m powers len e before before s k (record { len = len; sum = 0 })
+along_none nodes rows m powers len e before s k en ea ee ek =
+    record { nodes_are = en; end = ee; inv = λ w tree q x. rw (ek, ea) (mid_none w nodes rows m len e.at e.times x.rest x.trees x.weights before) }
+
+-- a call gave where the next tree begins
+pub along_given : (nodes : List Node) (rows : List Row) (m : ℕ) (powers : List ℕ) (len : ℕ) (e : Entry) (before later : List Entry) (s t : Kids) (n k at : ℕ) (g : Grown) → Along nodes rows m powers len e before later s n g →
+    Stepped s.nodes.now s.at s.end at t.nodes.now t.at t.end → k ≡ n → Inv nodes rows m powers len e before later k at g × (at < e.at + (node_at nodes e.at).size)
+along_given nodes rows m powers len e before later s t n k at g a d ek =
+    let i = d.is in let l = d.there in let f = a.end in
+    (rw (ek, i) a.inv, omega arith)
+
+pub along_more : (nodes : List Node) (rows : List Row) (m : ℕ) (powers : List ℕ) (len : ℕ) (e : Entry) (before later after : List Entry) (s t : Kids) (n n' k at : ℕ) (g r : Grown) → Along nodes rows m powers len e before later s n g →
+    Stepped s.nodes.now s.at s.end at t.nodes.now t.at t.end → k ≡ n → n' ≡ n + 1 → Inv nodes rows m powers len e before after (k + 1) (at + (node_at nodes at).size) r → Along nodes rows m powers len e before after t n' r
+along_more nodes rows m powers len e before later after s t n n' k at g r a d ek en inv =
+    let goes : t.at ≡ at + (node_at nodes at).size = d.goes ∙ ap (λ ns. s.at + (node_at ns s.at).size) a.nodes_are ∙ ap (λ z. z + (node_at nodes z).size) (sym d.is) in
+    let more : n' ≡ k + 1 = omega arith in
+    record { nodes_are = d.same ∙ a.nodes_are; end = d.end ∙ a.end; inv = rw (more, goes) inv }
 
 pub fan_ready : (w : Told) (t : Tree) (nodes : List Node) (rows : List Row) (m : ℕ) (powers : List ℕ) (room len : ℕ) (e : Entry) → Ready w t nodes rows m powers room len e → Chance (node_at nodes e.at).place →
     Fan w nodes rows m e.left e.at t
@@ -188,7 +212,7 @@ pub record Plain (nodes : List Node) (rows : List Row) (m : ℕ) (powers : List 
   pub tree : Tree
   pub facts : KidFacts told tree nodes rows m powers room glen k at v e
 
-pub plain : (nodes : List Node) (rows : List Row) (m : ℕ) (powers : List ℕ) (len : ℕ) (e : Entry) (before later : List Entry) (k at v : ℕ) (g : Grown) →
+plain : (nodes : List Node) (rows : List Row) (m : ℕ) (powers : List ℕ) (len : ℕ) (e : Entry) (before later : List Entry) (k at v : ℕ) (g : Grown) →
     SomeReady nodes rows m powers (length before) len e → Chance (node_at nodes e.at).place → Inv nodes rows m powers len e before later k at g → length later ≡ length before →
     at < e.at + (node_at nodes e.at).size → v ≡ weight_at nodes rows m (node_at nodes e.at).place at k →
     Plain nodes rows m powers (length later) g.len k at v e
@@ -203,6 +227,13 @@ plain nodes rows m powers len e before later k at v g p c inv kept l ev =
       facts = subst (λ n. KidFacts p.told (nth x.trees k) nodes rows m powers n g.len k at v e) (sym kept)
           (kid_facts p.told p.tree nodes rows m powers (length before) len e before later k at v g q x d h ev);
     }
+
+pub along_plain : (nodes : List Node) (rows : List Row) (m : ℕ) (powers : List ℕ) (len : ℕ) (e : Entry) (before later : List Entry) (s t : Kids) (n k at v : ℕ) (g : Grown) → SomeReady nodes rows m powers (length before) len e → Chance (node_at nodes e.at).place →
+    Along nodes rows m powers len e before later s n g → length later ≡ length before → Stepped s.nodes.now s.at s.end at t.nodes.now t.at t.end → k ≡ n → v ≡ weight_at nodes rows m (node_at nodes e.at).place at k →
+    Plain nodes rows m powers (length later) g.len k at v e
+along_plain nodes rows m powers len e before later s t n k at v g p c a kept d ek ev =
+    let i = along_given nodes rows m powers len e before later s t n k at g a d ek in
+    plain nodes rows m powers len e before later k at v g p c i.0 kept i.1 ev
 
 pub next_mid : (nodes : List Node) (rows : List Row) (m : ℕ) (powers : List ℕ) (len : ℕ) (e : Entry) (before later after : List Entry) (k at v : ℕ) (g r : Grown) →
     Inv nodes rows m powers len e before later k at g → length later ≡ length before →
@@ -337,11 +368,6 @@ settle_spread w t nodes rows m powers len e row later r (inr h) er el q =
 -- what spreading an entry out promises
 abbrev pub Spreads : List Node → List Row → ℕ → List ℕ → ℕ → Entry → List Entry → List Entry → Grown → Type 0
 Spreads nodes rows m powers len e row later r = (w : Told) (tree : Tree) → Ready w tree nodes rows m powers (length row) len e → Spread w tree nodes rows m len e row later r
-
--- where two ways meet: the row and the answer are those of the way that was taken
-pub met : (nodes : List Node) (rows : List Row) (m : ℕ) (powers : List ℕ) (len : ℕ) (e : Entry) (row later later' : List Entry) (r r' : Grown) → later ≡ later' → r ≡ r' →
-    Spreads nodes rows m powers len e row later' r' → Spreads nodes rows m powers len e row later r
-met nodes rows m powers len e row later later' r r' a b h = rw (a, b) h
 
 pub settle_spreads : (nodes : List Node) (rows : List Row) (m : ℕ) (powers : List ℕ) (len : ℕ) (e : Entry) (row later : List Entry) (r : Grown) → SettledAt nodes e.at →
     r ≡ settled (node_at nodes e.at).place powers len e → later ≡ settled_row (node_at nodes e.at).place len e row → Spreads nodes rows m powers len e row later r

@@ -1,14 +1,13 @@
 -- The loop that spreads out the trees after a choice.
 use Rattle.std.proofs.Common.{◌≡◌, ℕ, zero, suc, ◌+◌, ◌*◌, ◌^◌, ◌<◌, ◌≤◌, List, [], ◌∷◌, ◌++◌, length, get_or, take, drop, sym, refl, ap, ◌∙◌, subst, append_assoc, append-nil, mul-le-mul_left, arith, length-append}
 use Rattle.std.proofs.lemmas.List.{get_or-take, take_more, get_or_append_left, length-take-le, take-append-drop, take_all}
-use Rattle.cards.specs.Game.{Tree, over, deal, ours, theirs, Trees, Plan, many}
+use Rattle.cards.specs.Game.{Tree, over, deal, ours, theirs, Plan, many}
 use Rattle.cards.specs.Floor.{Item, nth, next, after}
 use Rattle.cards.specs.Reckon.{places, places_all, item, sure, open', sure_of, open_of, sight_number}
 use Rattle.plans.specs.declared.Row.{Row}
-use Rattle.tree.specs.Rep.{Rep, Reps}
+use Rattle.tree.specs.Rep.{Rep}
 use Rattle.tree.specs.declared.Node.{Node}
-use Rattle.tree.proofs.Reps.{rep_inside}
-use Rattle.worst.specs.Items.{firsts, parts, blank, Told, told_plan, Fit, StandFor, Entries, SomeKid}
+use Rattle.worst.specs.Items.{firsts, parts, blank, Told, told_plan, Fit, StandFor, Entries, SomeNth}
 use Rattle.worst.specs.Spread.{Ready, SomeReady, Spread}
 use Rattle.worst.specs.Worth.{room, mass, Choice, One, Each, There}
 use Rattle.worst.specs.Rows.{Rows, SomeKth, Gathered}
@@ -113,24 +112,20 @@ some_here : (nodes : List Node) (rows : List Row) (m : ℕ) (powers : List ℕ) 
 some_here nodes rows m powers len k before later g j p inv l =
     here p.told p.items _ nodes rows m powers len k before later g j p.given p.there (inv p.told p.items p.given p.there) l
 
--- the entry's place
-pub step_inside : (nodes : List Node) (rows : List Row) (m : ℕ) (powers : List ℕ) (len k : ℕ) (before later : List Entry) (g : Grown) (j : ℕ) → (p : SomeKth nodes rows m powers len k before) →
-    Inv nodes rows m powers len k before later j g → j < len → (j < length before) × ((get_or later j blank).at + 1 < 2 ^ 32)
-step_inside nodes rows m powers len k before later g j p inv l =
-    let h = some_here nodes rows m powers len k before later g j p inv l in
-    let i = rep_inside p.told.table m nodes _ _ h.stands.rep in
-    let f = p.given.bounds.few in
-    let le = p.given.len_le in
-    (omega arith, omega arith)
-
 pub step_kid : (nodes : List Node) (rows : List Row) (m : ℕ) (powers : List ℕ) (len k : ℕ) (before later : List Entry) (g : Grown) (j : ℕ) → (p : SomeKth nodes rows m powers len k before) →
-    Inv nodes rows m powers len k before later j g → j < len → SomeKid nodes ((get_or later j blank).at + 1) k
+    Inv nodes rows m powers len k before later j g → j < len → SomeNth nodes (get_or later j blank).at k
 step_kid nodes rows m powers len k before later g j p inv l =
     let h = some_here nodes rows m powers len k before later g j p inv l in
-    record { table = p.told.table; base = m; trees = parts (get_or p.items j item0).tree; reps = rep_parts p.told.table m nodes _ _ h.stands.rep; there = h.chosen.below; few = p.given.bounds.few }
+    let t = (get_or p.items j item0).tree in
+    record {
+      kid = record { table = p.told.table; base = m; trees = parts t; reps = rep_parts p.told.table m nodes _ t h.stands.rep; there = h.chosen.below; few = p.given.bounds.few };
+      tree = t;
+      rep = h.stands.rep;
+      parts_are = refl;
+    }
 
 abbrev pub After : List Node → ℕ → ℕ → ℕ → Type 0
-After nodes first k at = (table base : ℕ) (ts : Trees) → Reps table base nodes first ts → k < many ts → at ≡ first + places_all (firsts k ts)
+After nodes i k at = (table base : ℕ) (t : Tree) → Rep table base nodes i t → k < many (parts t) → at ≡ (i + 1) + places_all (firsts k (parts t))
 
 abbrev pub kid_of : Entry → ℕ → Entry
 kid_of e at = record { times = e.times; left = e.left; at = at }
@@ -158,7 +153,7 @@ kid_room w xs nodes rows m powers len k before later g j q th d l =
 
 pub ready_kth : (w : Told) (xs : List Item) (nodes : List Node) (rows : List Row) (m : ℕ) (powers : List ℕ) (len k : ℕ) (before later : List Entry) (g : Grown) (j at : ℕ) →
     Rows w xs nodes rows m powers len before → There w.choices k xs → Gathered w (take j xs) nodes rows m len k before later g → j < len → length later ≡ length before →
-    After nodes ((get_or later j blank).at + 1) k at → Ready w (next k (get_or xs j item0).tree) nodes rows m powers (length later) g.len (kid_of (get_or later j blank) at)
+    After nodes (get_or later j blank).at k at → Ready w (next k (get_or xs j item0).tree) nodes rows m powers (length later) g.len (kid_of (get_or later j blank) at)
 ready_kth w xs nodes rows m powers len k before later g j at q th d l kept ea =
     let h = here w xs _ nodes rows m powers len k before later g j q th d l in
     let x = get_or xs j item0 in
@@ -166,14 +161,14 @@ ready_kth w xs nodes rows m powers len k before later g j at q th d l kept ea =
     let rs = rep_parts w.table m nodes _ x.tree s.rep in
     let rp : Rep w.table m nodes at (next k x.tree) =
     subst (λ t. Rep w.table m nodes at t) (sym ch.next_is)
-    (subst (λ p. Rep w.table m nodes p (nth (parts x.tree) k)) (sym (ea w.table m (parts x.tree) rs ch.below)) (reps_nth w.table m nodes _ (parts x.tree) k rs ch.below)) in
+    (subst (λ p. Rep w.table m nodes p (nth (parts x.tree) k)) (sym (ea w.table m x.tree s.rep ch.below)) (reps_nth w.table m nodes _ (parts x.tree) k rs ch.below)) in
     let ma : w.table * (x.times * m ^ x.left) ≤ w.table * mass m xs = mul-le-mul_left w.table (mass_at m xs j h.inside) in
     let sm : w.table * (x.times * m ^ x.left) < 2 ^ 62 = (let z = q.small in omega arith) in
     let rm = kid_room w xs nodes rows m powers len k before later g j q th d h.inside in
     record { bounds = q.bounds; rep = rp; fit = rw s.left ch.fit; left = rw s.left h.one.left; small = rw (s.times, s.left) sm; fits = omega arith }
 
 pub some_ready_kth : (nodes : List Node) (rows : List Row) (m : ℕ) (powers : List ℕ) (len k : ℕ) (before later : List Entry) (g : Grown) (j at : ℕ) → (p : SomeKth nodes rows m powers len k before) →
-    Inv nodes rows m powers len k before later j g → j < len → length later ≡ length before → After nodes ((get_or later j blank).at + 1) k at →
+    Inv nodes rows m powers len k before later j g → j < len → length later ≡ length before → After nodes (get_or later j blank).at k at →
     SomeReady nodes rows m powers (length later) g.len (kid_of (get_or later j blank) at)
 some_ready_kth nodes rows m powers len k before later g j at p inv l kept ea =
     record {
@@ -183,7 +178,7 @@ some_ready_kth nodes rows m powers len k before later g j at p inv l kept ea =
     }
 
 pub step_more : (nodes : List Node) (rows : List Row) (m : ℕ) (powers : List ℕ) (len k : ℕ) (before later behind : List Entry) (g r : Grown) (j at : ℕ) →
-    Inv nodes rows m powers len k before later j g → j < len → length later ≡ length before → After nodes ((get_or later j blank).at + 1) k at →
+    Inv nodes rows m powers len k before later j g → j < len → length later ≡ length before → After nodes (get_or later j blank).at k at →
     ((w : Told) (tree : Tree) → Ready w tree nodes rows m powers (length later) g.len (kid_of (get_or later j blank) at) → Spread w tree nodes rows m g.len (kid_of (get_or later j blank) at) later behind r) →
     Inv nodes rows m powers len k before behind (j + 1) (record { len = r.len; sum = g.sum + r.sum })
 step_more nodes rows m powers len k before later behind g r j at inv l kept ea ens w xs q th =

@@ -1,10 +1,10 @@
 -- Entries of the work row, and the items of the reckoning that they stand for. Assumes nothing: these are definitions.
-use Rattle.std.specs.Prelude.{◌≡◌, ℕ, zero, suc, ◌*◌, ◌/◌, ◌^◌, ◌<◌, ◌≤◌, List, [], ◌∷◌, length, slice_index, slice_index_or}
+use Rattle.std.specs.Prelude.{◌≡◌, ℕ, zero, suc, ◌+◌, ◌*◌, ◌^◌, ◌<◌, ◌≤◌, List, [], ◌∷◌, length, slice_index}
 use Rattle.cards.specs.Game.{Tree, over, deal, ours, theirs, Trees, none, more, Plan, many, total}
 use Rattle.cards.specs.Floor.{Item}
-use Rattle.plans.specs.Plan.{plan_of, no_row}
+use Rattle.plans.specs.Plan.{plan_of}
 use Rattle.plans.specs.declared.Row.{Row}
-use Rattle.tree.specs.Rep.{Rep, Reps, node_at}
+use Rattle.tree.specs.Rep.{Rep, Reps}
 use Rattle.tree.specs.declared.Node.{Node}
 use Rattle.tree.specs.declared.Place.{Place}
 use Rattle.tree.specs.declared.Place.TheVariants.{Over, Deal, House, Guest}
@@ -19,20 +19,6 @@ place_sight (Over g) = 0
 place_sight (Deal n) = 0
 place_sight (House z j) = 0
 place_sight (Guest z j) = j
-
--- the weight of the tree at `at`, the j-th of its place
-abbrev pub weight_at : List Node → List Row → ℕ → Place → ℕ → ℕ → ℕ
-weight_at nodes rows m (Over g) at j = 0
-weight_at nodes rows m (Deal n) at j = m * (node_at nodes at).share / n
-weight_at nodes rows m (House z i) at j = slice_index (slice_index_or rows i no_row).weights j
-weight_at nodes rows m (Guest z i) at j = 0
-
--- the weight is there to read
-abbrev pub Weighable : List Node → List Row → Place → ℕ → ℕ → Type 0
-Weighable nodes rows (Over g) at j = Unit {0}
-Weighable nodes rows (Deal n) at j = (0 < n) × (at < length nodes)
-Weighable nodes rows (House z i) at j = (i < length rows) × (j < length (slice_index_or rows i no_row).weights)
-Weighable nodes rows (Guest z i) at j = Unit {0}
 
 -- a deal, or a choice of the house: a word of chance picks there
 abbrev pub Chance : Place → Type 0
@@ -62,6 +48,13 @@ pub record SomeKid (nodes : List Node) (i k : ℕ) : Type 0 where
   pub reps : Reps table base nodes i trees
   pub there : k < many trees
   pub few : length nodes < 2 ^ 32
+
+-- the tree that lies at i has one after k others
+pub record SomeNth (nodes : List Node) (i k : ℕ) : Type 0 where
+  pub kid : SomeKid nodes (i + 1) k
+  pub tree : Tree
+  pub rep : Rep kid.table kid.base nodes i tree
+  pub parts_are : kid.trees ≡ parts tree
 
 -- a tree lies at i
 pub record SomeTree (nodes : List Node) (i : ℕ) : Type 0 where

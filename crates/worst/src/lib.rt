@@ -4,23 +4,24 @@
 
 ghost use Rattle.std.specs.Prelude.{◌≡◌, ℕ, ◌+◌, ◌-◌, ◌*◌, ◌^◌, ◌<◌, ◌≤◌, List, length, replicate};
 ghost use Rattle.cards.specs.Floor.{Item};
-ghost use Rattle.cards.specs.Game.{Tree, Trees, many};
+ghost use Rattle.cards.specs.Game.{Tree, many};
 ghost use Rattle.cards.specs.Reckon.{places_all, least, last, worst as worst_of};
 ghost use Rattle.plans.specs.Plan.{plan_of};
-ghost use Rattle.tree.specs.Rep.{Rep, Reps, node_at};
-ghost use Rattle.worst.specs.Items.{Told, Chance, blank as blank_entry, told_plan, firsts, parts, SomeKid, SomeTree, Powers, place_sight, weight_at, Weighable};
+ghost use Rattle.tree.specs.Rep.{Rep, node_at};
+ghost use Rattle.worst.specs.Items.{Told, Chance, blank as blank_entry, told_plan, firsts, parts, SomeNth, SomeTree, Powers, place_sight};
 ghost use Rattle.worst.specs.Group.{Groupable, Grouped};
 ghost use Rattle.worst.specs.Rows.{Rows, SomeRows, SomeKth, SomeGroup, Gathered};
 ghost use Rattle.worst.specs.Whole.{Whole, SomeWhole};
 ghost use Rattle.worst.specs.Worth.{worth, branch, AllAt, There};
 ghost use Rattle.worst.specs.Spread.{Ready, SomeReady, Spread, Settles, settled, settled_row};
+ghost use Rattle.worst.specs.declared.Refusal.TheVariants.{OfTree};
 ghost use Rattle.worst.specs.Admit.{number_of, place_of, admitted};
 
 use plans::Row;
-use tree::{Node, Place, Sizes, at_most};
+use tree::{Kids, Node, Place, Sizes, at_most};
 
 // A tree that counts so many times, with so many words left, and where it lies in the nodes.
-#[derive(Clone, Copy)]
+#[derive(Clone, Copy, Default)]
 pub struct Entry {
     times: u64,
     left: u32,
@@ -32,11 +33,7 @@ impl Entry {
     pub fn blank() -> Entry
         ensures { result ≡ blank_entry }
     {
-        Entry {
-            times: 0,
-            left: 0,
-            at: 0,
-        }
+        Entry::default()
     }
 }
 
@@ -53,12 +50,35 @@ struct Grown {
     sum: u64,
 }
 
+impl Grown {
+    // What stands in the row after the next entry too, and what is summed up with it.
+    fn then(self, next: Grown) -> Grown
+        requires { self.sum + next.sum < 2 ^ 64 }
+        ensures { result ≡ record { len = next.len; sum = self.sum + next.sum } }
+    {
+        Grown {
+            len: next.len,
+            sum: self.sum + next.sum,
+        }
+    }
+}
+
+// What is reckoned over: the tree, the plan, the number below which words of chance lie, and its powers.
+#[derive(Drop)]
+struct Game<'a> {
+    nodes: &'a [Node],
+    rows: &'a [Row],
+    m: u32,
+    powers: [u64; 62],
+}
+
 // The powers of m: those of more words than a hand has stay 1.
 fn powers_of(m: u32, words: u32) -> [u64; 62]
     requires { (2 ≤ m) × (m ^ words < 2 ^ 62) }
     ensures { Powers m words result }
 {
     let mut powers = [1; 62];
+    // Kept: each power is made of the one before, and the index says which; a chain would carry it in a variable beside.
     for i in 0..words as usize {
         powers[i + 1] = powers[i] * m as u64;
     }
@@ -75,169 +95,20 @@ fn sight_of(place: Place) -> u32
     }
 }
 
-// The weight by which a deal or a choice of the house leads to its tree at `at`, the one after `k` others.
-fn weight(nodes: &[Node], rows: &[Row], m: u32, place: Place, at: usize, k: u32) -> u64
-    requires { Weighable nodes.now rows.now place at k }
-    ensures { result ≡ weight_at nodes.now rows.now m place at k }
+// Where the tree after `k` others lies, of those of the place at `at`.
+fn child(nodes: &[Node], at: u32, k: u32) -> u32
+    requires { SomeNth nodes.now at k }
+    ensures { (table base : ℕ) (t : Tree) → Rep table base nodes.now at t → k < many (parts t) → result ≡ (at + 1) + places_all (firsts k (parts t)) }
 {
-    match place {
-        Place::Deal(parts) => m as u64 * nodes[at].share as u64 / parts as u64,
-        Place::House(_, sight) => {
-            let weights: &[u32] = &rows[sight as usize].weights;
-            weights[k as usize] as u64
-        }
-        Place::Over(_) | Place::Guest(_, _) => 0,
-    }
+    Kids::of(nodes, at as usize).nth(k as usize).unwrap() as u32
 }
 
-// What an entry adds where the hand is over; at any other place it is written after the first `len`.
-fn settle(nodes: &[Node], powers: &[u64], work: &mut [Entry], len: usize, e: Entry) -> Grown
-    requires { Settles nodes.now powers.now (length work.old) len e }
-    ensures answer { result ≡ settled (node_at nodes.now e.at).place powers.now len e }
-    ensures after { work.new ≡ settled_row (node_at nodes.now e.at).place len e work.old }
-{
-    match nodes[e.at as usize].place {
-        Place::Over(ends) => Grown {
-            len,
-            sum: e.times * (ends.house as u64 * powers[e.left as usize]),
-        },
-        Place::Guest(_, _) | Place::Deal(_) | Place::House(_, _) => {
-            work[len] = e;
-            Grown {
-                len: len + 1,
-                sum: 0,
-            }
-        }
-    }
-}
-
-// Spreads out the trees of an entry at a deal or a choice of the house, each counted by its weight and with a word fewer.
-fn spread(
-    nodes: &[Node],
-    rows: &[Row],
-    m: u32,
-    powers: &[u64],
-    work: &mut [Entry],
-    len: usize,
-    e: Entry,
-) -> Grown
-    requires ready { SomeReady nodes.now rows.now m powers.now (length work.old) len e }
-    requires chance { Chance (node_at nodes.now e.at).place }
-    ensures { (w : Told) (tree : Tree) → Ready w tree nodes.now rows.now m powers.now (length work.old) len e →
-        Spread w tree nodes.now rows.now m len e work.old work.new result }
-{
-    let root = nodes[e.at as usize];
-    let mut grown = Grown { len, sum: 0 };
-    let mut at = e.at + 1;
-    let mut k: u32 = 0;
-    while at < e.at + root.size {
-        let w = weight(nodes, rows, m, root.place, at as usize, k);
-        let kid = Entry {
-            times: e.times * w,
-            left: e.left - 1,
-            at,
-        };
-        let node = nodes[at as usize];
-        // as `expand`, but ends and the guest's choices go to `settle` at once
-        let next = match node.place {
-            Place::Deal(_) | Place::House(_, _) => spread(
-                nodes, rows, m, powers, work, grown.len, kid,
-            ),
-            Place::Over(_) | Place::Guest(_, _) => settle(nodes, powers, work, grown.len, kid),
-        };
-        grown = Grown {
-            len: next.len,
-            sum: grown.sum + next.sum,
-        };
-        at += node.size;
-        k += 1;
-    }
-    grown
-}
-
-// Spreads an entry out: what is over is summed up, the choices of the guest are written after the first `len`.
-fn expand(
-    nodes: &[Node],
-    rows: &[Row],
-    m: u32,
-    powers: &[u64],
-    work: &mut [Entry],
-    len: usize,
-    e: Entry,
-) -> Grown
-    requires { SomeReady nodes.now rows.now m powers.now (length work.old) len e }
-    ensures { (w : Told) (tree : Tree) → Ready w tree nodes.now rows.now m powers.now (length work.old) len e →
-        Spread w tree nodes.now rows.now m len e work.old work.new result }
-{
-    match nodes[e.at as usize].place {
-        Place::Deal(_) | Place::House(_, _) => spread(nodes, rows, m, powers, work, len, e),
-        Place::Over(_) | Place::Guest(_, _) => settle(nodes, powers, work, len, e),
-    }
-}
-
-// Where the tree after `k` others lies, of those that begin at `first`.
-fn child(nodes: &[Node], first: u32, k: u32) -> u32
-    requires { SomeKid nodes.now first k }
-    ensures { (table base : ℕ) (ts : Trees) → Reps table base nodes.now first ts → k < many ts → result ≡ first + places_all (firsts k ts) }
-{
-    let mut at = first;
-    for _j in 0..k {
-        at += nodes[at as usize].size;
-    }
-    at
-}
-
-// How many trees the tree at `at` has: each ends where the next begins.
+// How many trees the tree at `at` has.
 fn count_of(nodes: &[Node], at: u32) -> u32
     requires { SomeTree nodes.now at }
     ensures { (table base : ℕ) (t : Tree) → Rep table base nodes.now at t → result ≡ many (parts t) }
 {
-    let end = at + nodes[at as usize].size;
-    let mut next = at + 1;
-    let mut count = 0;
-    while next < end {
-        next += nodes[next as usize].size;
-        count += 1;
-    }
-    count
-}
-
-// Spreads out the trees after choice `k` of the first `len` entries, after them.
-fn gather(
-    nodes: &[Node],
-    rows: &[Row],
-    m: u32,
-    powers: &[u64],
-    work: &mut [Entry],
-    len: usize,
-    k: u32,
-) -> Grown
-    requires { SomeKth nodes.now rows.now m powers.now len k work.old }
-    ensures { (w : Told) (xs : List Item) → Rows w xs nodes.now rows.now m powers.now len work.old → There w.choices k xs →
-        Gathered w xs nodes.now rows.now m len k work.old work.new result }
-{
-    let mut grown = Grown { len, sum: 0 };
-    for j in 0..len {
-        let e = work[j];
-        let at = child(nodes, e.at + 1, k);
-        let kid = Entry {
-            times: e.times,
-            left: e.left,
-            at,
-        };
-        // as `expand`, but ends and the guest's choices go to `settle` at once
-        let next = match nodes[at as usize].place {
-            Place::Deal(_) | Place::House(_, _) => spread(
-                nodes, rows, m, powers, work, grown.len, kid,
-            ),
-            Place::Over(_) | Place::Guest(_, _) => settle(nodes, powers, work, grown.len, kid),
-        };
-        grown = Grown {
-            len: next.len,
-            sum: grown.sum + next.sum,
-        };
-    }
-    grown
+    Kids::of(nodes, at as usize).count() as u32
 }
 
 // Puts the entries at a sight behind the others of the first `len`, and says how many others there are. Each keep their order: those at
@@ -247,6 +118,7 @@ fn group(nodes: &[Node], work: &mut [Entry], len: usize, sight: u32) -> usize
     ensures { Grouped nodes.now sight len work.old work.new result }
 {
     let mut front = 0;
+    // Kept: the row that is gone over is also written, so no iterator can lend its entries.
     for i in 0..len {
         let e = work[i];
         if sight_of(nodes[e.at as usize].place) == sight {
@@ -260,56 +132,122 @@ fn group(nodes: &[Node], work: &mut [Entry], len: usize, sight: u32) -> usize
     front
 }
 
-// The least over the choices of the first `len` entries, which are all at one sight.
-#[cycle(least_of_reckon)]
-fn least_of(
-    nodes: &[Node],
-    rows: &[Row],
-    m: u32,
-    powers: &[u64],
-    work: &mut [Entry],
-    len: usize,
-) -> u64
-    requires { SomeGroup nodes.now rows.now m powers.now len work.old }
-    ensures { (w : Told) (xs : List Item) (s : ℕ) → Rows w xs nodes.now rows.now m powers.now len work.old → AllAt s xs →
-        result ≡ least (last (w.choices s)) (branch m (told_plan w rows.now) w.choices xs) }
-{
-    let choices = count_of(nodes, work[0].at);
-    let mut best = u64::MAX;
-    for k in 0..choices {
-        let grown = gather(nodes, rows, m, powers, work, len, k);
-        let rest = reckon(nodes, rows, m, powers, &mut work[len..], grown.len - len);
-        let value = grown.sum + rest;
-        if value < best {
-            best = value;
+impl Game<'_> {
+    // What an entry adds where the hand is over; at any other place it is written after the first `len`.
+    fn settle(&self, work: &mut [Entry], len: usize, e: Entry) -> Grown
+        requires { let g = self.now in Settles g.nodes.now g.powers (length work.old) len e }
+        ensures answer { let g = self.now in result ≡ settled (node_at g.nodes.now e.at).place g.powers len e }
+        ensures after { work.new ≡ settled_row (node_at self.now.nodes.now e.at).place len e work.old }
+    {
+        match self.nodes[e.at as usize].place {
+            Place::Over(ends) => Grown {
+                len,
+                sum: e.times * (ends.house as u64 * self.powers[e.left as usize]),
+            },
+            Place::Guest(_, _) | Place::Deal(_) | Place::House(_, _) => {
+                work[len] = e;
+                Grown {
+                    len: len + 1,
+                    sum: 0,
+                }
+            }
         }
     }
-    best
-}
 
-// The least that the guest can bring the first `len` entries to: sight by sight.
-#[cycle(least_of_reckon)]
-fn reckon(
-    nodes: &[Node],
-    rows: &[Row],
-    m: u32,
-    powers: &[u64],
-    work: &mut [Entry],
-    len: usize,
-) -> u64
-    requires { SomeRows nodes.now rows.now m powers.now len work.old }
-    ensures { (w : Told) (xs : List Item) → Rows w xs nodes.now rows.now m powers.now len work.old →
-        result ≡ worth m (told_plan w rows.now) w.choices xs }
-{
-    let mut total = 0;
-    let mut left = len;
-    while left > 0 {
-        let sight = sight_of(nodes[work[0].at as usize].place);
-        let front = group(nodes, work, left, sight);
-        total += least_of(nodes, rows, m, powers, &mut work[front..], left - front);
-        left = front;
+    // Spreads out the trees of an entry at a deal or a choice of the house, each counted by its weight and with a word fewer.
+    #[cycle(expand_spread)]
+    fn spread(&self, work: &mut [Entry], len: usize, e: Entry) -> Grown
+        requires ready { let g = self.now in SomeReady g.nodes.now g.rows.now g.m g.powers (length work.old) len e }
+        requires chance { Chance (node_at self.now.nodes.now e.at).place }
+        ensures { let g = self.now in (w : Told) (tree : Tree) → Ready w tree g.nodes.now g.rows.now g.m g.powers (length work.old) len e →
+            Spread w tree g.nodes.now g.rows.now g.m len e work.old work.new result }
+    {
+        let root = self.nodes[e.at as usize].place;
+        let mut grown = Grown { len, sum: 0 };
+        for (k, at) in Kids::of(self.nodes, e.at as usize).enumerate() {
+            let w = plans::weight(self.nodes, self.rows, self.m, root, at, k);
+            let kid = Entry {
+                times: e.times * w,
+                left: e.left - 1,
+                at: at as u32,
+            };
+            let next = self.expand(work, grown.len, kid);
+            grown = grown.then(next);
+        }
+        grown
     }
-    total
+
+    // Spreads an entry out: what is over is summed up, the choices of the guest are written after the first `len`. A call for each
+    // tree would take a quarter more time, since most are ends.
+    #[cycle(expand_spread)]
+    #[inline(always)]
+    fn expand(&self, work: &mut [Entry], len: usize, e: Entry) -> Grown
+        requires { let g = self.now in SomeReady g.nodes.now g.rows.now g.m g.powers (length work.old) len e }
+        ensures { let g = self.now in (w : Told) (tree : Tree) → Ready w tree g.nodes.now g.rows.now g.m g.powers (length work.old) len e →
+            Spread w tree g.nodes.now g.rows.now g.m len e work.old work.new result }
+    {
+        match self.nodes[e.at as usize].place {
+            Place::Deal(_) | Place::House(_, _) => self.spread(work, len, e),
+            Place::Over(_) | Place::Guest(_, _) => self.settle(work, len, e),
+        }
+    }
+
+    // Spreads out the trees after choice `k` of the first `len` entries, after them.
+    fn gather(&self, work: &mut [Entry], len: usize, k: u32) -> Grown
+        requires { let g = self.now in SomeKth g.nodes.now g.rows.now g.m g.powers len k work.old }
+        ensures { let g = self.now in (w : Told) (xs : List Item) → Rows w xs g.nodes.now g.rows.now g.m g.powers len work.old → There w.choices k xs →
+            Gathered w xs g.nodes.now g.rows.now g.m len k work.old work.new result }
+    {
+        let mut grown = Grown { len, sum: 0 };
+        // Kept: the row that is gone over is also written behind, so no iterator can lend its entries.
+        for j in 0..len {
+            let e = work[j];
+            let at = child(self.nodes, e.at, k);
+            let kid = Entry {
+                times: e.times,
+                left: e.left,
+                at,
+            };
+            let next = self.expand(work, grown.len, kid);
+            grown = grown.then(next);
+        }
+        grown
+    }
+
+    // The least over the choices of the first `len` entries, which are all at one sight.
+    #[cycle(least_of_reckon)]
+    fn least_of(&self, work: &mut [Entry], len: usize) -> u64
+        requires { let g = self.now in SomeGroup g.nodes.now g.rows.now g.m g.powers len work.old }
+        ensures { let g = self.now in (w : Told) (xs : List Item) (s : ℕ) → Rows w xs g.nodes.now g.rows.now g.m g.powers len work.old → AllAt s xs →
+            result ≡ least (last (w.choices s)) (branch g.m (told_plan w g.rows.now) w.choices xs) }
+    {
+        let choices = count_of(self.nodes, work[0].at);
+        let mut best = u64::MAX;
+        for k in 0..choices {
+            let grown = self.gather(work, len, k);
+            let rest = self.reckon(&mut work[len..], grown.len - len);
+            best = best.min(grown.sum + rest);
+        }
+        best
+    }
+
+    // The least that the guest can bring the first `len` entries to: sight by sight.
+    #[cycle(least_of_reckon)]
+    fn reckon(&self, work: &mut [Entry], len: usize) -> u64
+        requires { let g = self.now in SomeRows g.nodes.now g.rows.now g.m g.powers len work.old }
+        ensures { let g = self.now in (w : Told) (xs : List Item) → Rows w xs g.nodes.now g.rows.now g.m g.powers len work.old →
+            result ≡ worth g.m (told_plan w g.rows.now) w.choices xs }
+    {
+        let mut total = 0;
+        let mut left = len;
+        while left > 0 {
+            let sight = sight_of(self.nodes[work[0].at as usize].place);
+            let front = group(self.nodes, work, left, sight);
+            total += self.least_of(&mut work[front..], left - front);
+            left = front;
+        }
+        total
+    }
 }
 
 // The worst of the plan in `rows` over the tree in `nodes`. The work row is used, and wiped then.
@@ -319,14 +257,19 @@ pub fn worst(nodes: &[Node], rows: &[Row], m: u32, words: u32, work: &mut [Entry
         result.worst ≡ worst_of m (plan_of rows.now c) choices words tree }
     ensures after { work.new ≡ replicate (length work.old) blank_entry }
 {
-    let powers = powers_of(m, words);
+    let game = Game {
+        nodes,
+        rows,
+        m,
+        powers: powers_of(m, words),
+    };
     let whole = Entry {
         times: 1,
         left: words,
         at: 0,
     };
-    let grown = expand(nodes, rows, m, &powers, work, 0, whole);
-    let rest = reckon(nodes, rows, m, &powers, work, grown.len);
+    let grown = game.expand(work, 0, whole);
+    let rest = game.reckon(work, grown.len);
     let sum = grown.sum + rest;
     let blank = Entry::blank();
     work.fill(blank);
@@ -362,6 +305,14 @@ impl Refusal {
     }
 }
 
+impl From<tree::Refusal> for Refusal {
+    ghost from_gives = { λ e r. r ≡ OfTree e };
+
+    fn from(e: tree::Refusal) -> Refusal {
+        Refusal::OfTree(e)
+    }
+}
+
 // The sizes, where places and sights fit their memory, the work row is long enough and there are not too many places.
 pub fn admit(
     sizes: Sizes,
@@ -372,20 +323,9 @@ pub fn admit(
 ) -> Result<Sizes, Refusal>
     ensures { result ≡ admitted sizes nodes house guest work }
 {
-    let Some(_) = at_most(sizes.places, nodes) else {
-        return Err(Refusal::OfTree(tree::Refusal::NoRoom));
-    };
-    let Some(_) = at_most(sizes.house.sights, house) else {
-        return Err(Refusal::OfTree(tree::Refusal::NoSightRoom));
-    };
-    let Some(_) = at_most(sizes.guest.sights, guest) else {
-        return Err(Refusal::OfTree(tree::Refusal::NoSightRoom));
-    };
+    let sizes = tree::fits(sizes, nodes, house, guest)?;
     let Some(_) = at_most(sizes.places, work) else {
         return Err(Refusal::NoWork);
     };
-    let Some(_) = at_most(sizes.places, 65536) else {
-        return Err(Refusal::OfTree(tree::Refusal::TooLarge));
-    };
-    Ok(sizes)
+    Ok(tree::few(sizes)?)
 }

@@ -1,9 +1,6 @@
 use Rattle.std.proofs.Common.{arith}
-use Rattle.worst.proofs.Raised.{raised_none, raised_small, raised_more, raised_all}
+use Rattle.worst.proofs.Raised.{raised_small, raised_more, raised_all}
 use Rattle.worst.proofs.powers_of.Goals as goal
-
-pub loop-i-init : goal.loop-i-init
-loop-i-init c = raised_none c.args.m
 
 pub bounds-powers-i : goal.bounds-powers-i
 bounds-powers-i c = let s = raised_small _ _ _ _ c.requires.0 c.requires.1 c.loop-i.invariant c.loop-i-test.true in omega arith

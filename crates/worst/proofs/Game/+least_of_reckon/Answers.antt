@@ -1,12 +1,8 @@
 use Rattle.std.proofs.Common.{refl, ◌∙◌, arith}
 use borrow.Rule.Slice.PartMut.{take_put, same_len_mid}
-use Rattle.worst.proofs.Branches.{part_falls, part_no_longer, first_tree, kids_none, kth, kth_rows, kth_worth, branch_small, kids_more, kids_all}
-use Rattle.worst.proofs.Rounds.{round_none, round_inside, round_groupable, round_parted, round_group, round_more, round_small, round_all}
-use Rattle.worst.proofs.+least_of_reckon.Goals as goal
-use Rattle.worst.proofs.+least_of_reckon.Goals.{least_of-then-value-best, least_of-else-value-best}
-
-pub least_of-count_of-choices-requires : goal.least_of-count_of-choices-requires
-least_of-count_of-choices-requires t c = first_tree _ _ _ _ _ _ c.requires
+use Rattle.worst.proofs.Branches.{part_falls, part_no_longer, kids_none, kth, kth_rows, kth_worth, branch_small, kids_more, kids_all}
+use Rattle.worst.proofs.Rounds.{round_inside, round_groupable, round_parted, round_group, round_more, round_small, round_all}
+use Rattle.worst.proofs.Game.+least_of_reckon.Goals as goal
 
 pub least_of-loop-k-init : goal.least_of-loop-k-init
 least_of-loop-k-init t c = kids_none _ _ _ _ _ _
@@ -25,8 +21,8 @@ least_of-reckon-rest-requires t c =
     let p = kth _ _ _ _ _ _ _ _ _ c.requires c.count_of-choices.ensures c.loop-k.invariant.0 c.loop-k.auto.work c.loop-k-test.true in
     (part_falls _ _ _ _ (c.gather-grown.auto.work ∙ c.loop-k.auto.work) c.requires.some c.requires.given.len_le c.decreases, kth_rows _ _ _ _ _ _ _ _ _ _ p c.gather-grown.auto.work c.gather-grown.ensures refl)
 
-pub least_of-overflow_add-value : goal.least_of-overflow_add-value
-least_of-overflow_add-value t c =
+pub least_of-overflow_add-grown : goal.least_of-overflow_add-grown
+least_of-overflow_add-grown t c =
     let p = kth _ _ _ _ _ _ _ _ _ c.requires c.count_of-choices.ensures c.loop-k.invariant.0 c.loop-k.auto.work c.loop-k-test.true in
     let v = kth_worth _ _ _ _ _ _ _ _ _ _ p.told p.items p.given p.there c.gather-grown.auto.work c.gather-grown.ensures c.reckon-rest.ensures in
     let h = branch_small _ _ _ _ _ _ _ _ _ p.given p.there in omega arith
@@ -37,19 +33,13 @@ least_of-loop-k-preserved t c =
     kids_more _ _ _ _ _ _ _ _ _ _ _ _ _ _ _ c.requires.some c.count_of-choices.ensures c.loop-k.invariant c.loop-k.auto.work c.loop-k-test.true c.gather-grown.auto.work c.gather-grown.ensures
     c.reckon-rest.ensures p
     (take_put c.args.len _ c.gather-grown.new.work c.reckon-rest.new.work (omega (arith, c.requires.given.len_le, c.loop-k.auto.work, c.gather-grown.auto.work)))
-    (elim c.if-value-best.branch [ least_of-then-value-best w ↦ let l = w.if-value-best.true in omega (arith, w.best-is) | least_of-else-value-best w ↦ let l = w.if-value-best.false in omega (arith, w.best-is) ])
+    c.min-best.ensures
 
 pub least_of-returns : goal.least_of-returns
 least_of-returns t c = kids_all _ _ _ _ _ _ _ _ _ _ c.requires.some c.count_of-choices.ensures c.loop-k.invariant (omega (arith, c.loop-k.auto.k-end, c.loop-k-test.false))
 
-pub reckon-loop-left-init : goal.reckon-loop-left-init
-reckon-loop-left-init t c = round_none _ _ _ _ _ _
-
-pub reckon-bounds-work-0 : goal.reckon-bounds-work-0
-reckon-bounds-work-0 t c = (round_inside _ _ _ _ _ _ _ _ _ c.requires c.loop-left.invariant c.loop-left-test.true).0
-
-pub reckon-bounds-nodes-work : goal.reckon-bounds-nodes-work
-reckon-bounds-nodes-work t c = (round_inside _ _ _ _ _ _ _ _ _ c.requires c.loop-left.invariant c.loop-left-test.true).1
+pub reckon-bounds-self-work : goal.reckon-bounds-self-work
+reckon-bounds-self-work t c = (round_inside _ _ _ _ _ _ _ _ _ c.requires c.loop-left.invariant c.loop-left-test.true).1
 
 pub reckon-group-front-requires : goal.reckon-group-front-requires
 reckon-group-front-requires t c = round_groupable _ _ _ _ _ _ _ _ _ _ c.requires c.loop-left.invariant
