@@ -1,110 +1,76 @@
 -- The guest's choice among trees, tree by tree.
-use Rattle.std.proofs.Common.{◌≡◌, ℕ, suc, ◌+◌, ◌-◌, ◌^◌, ◌<◌, ◌≤◌, List, length, get_or, drop, sym, refl, ap, ◌∙◌, subst, arith}
-use Rattle.std.proofs.lemmas.List.{drop_more, drop_all}
-use Rattle.cards.specs.Game.{theirs, Trees, none, more, Plan}
+use Rattle.std.proofs.Common.{◌≡◌, ℕ, zero, suc, ◌+◌, ◌<◌, ◌≤◌, List, length, get_or, drop, Option, Some, None, MatchOption, ok_or, refl, ap, ◌∙◌, subst, sym, arith}
+use Rattle.std.proofs.lemmas.List.{drop_more}
+use Rattle.std.proofs.Math.Logic.{∥∥₁_map}
+use Rattle.cards.specs.Game.{Tree, over, deal, ours, theirs, Trees, none, more, Plan, many}
 use Rattle.cards.specs.Promise.{Wells}
 use Rattle.cards.specs.Played.{refused, plays, picks}
-use Rattle.cards.specs.Reckon.{places_all}
-use Rattle.cards.proofs.AtHand.{places_pos}
-use Rattle.tree.proofs.Reps.{rep_inside, rep_size}
-use Rattle.tree.specs.Rep.{Reps, node_at}
+use Rattle.cards.specs.Reckon.{places, places_all}
+use Rattle.std.specs.Iterator.{SkipsThenYields}
+use Rattle.tree.proofs.Siblings.{kid_steps, kids_nth}
+use Rattle.tree.specs.Rep.{Rep, Reps, Weighed, rest_of, node_at}
+use Rattle.tree.specs.Siblings.{SomeRoot, KidsLie, start}
 use Rattle.tree.specs.declared.Node.{Node}
-use Rattle.hands.specs.Steps.{Picked, SomeKids}
+use Rattle.tree.specs.declared.kids.Kids.{Kids}
+use Rattle.hands.specs.Steps.{Picked, Chosen, Chooses}
+use Rattle.hands.specs.declared.Refusal.TheVariants.{NoChoice}
 use Rattle.hands.proofs.Fits.{first_fits, rest_fits}
-use Rattle.hands.proofs.Falls.{Sure}
 
--- the choice x has come to y, and the trees from i on are left
-pub record Left (k m n : ℕ) (plan : Plan) (counts : ℕ → ℕ) (nodes : List Node) (e : ℕ) (ts : Trees) (x i y : ℕ) : Type 0 where
-  pub trees : Trees
-  pub lie : Reps k m nodes i trees
-  pub ends : i + places_all trees ≡ e
-  pub fits : Wells m plan counts n trees
-  pub fewer : places_all trees ≤ places_all ts
-  pub goes : (c d : ℕ) (chosen words : List ℕ) → picks m plan ts x c d chosen words ≡ picks m plan trees y c d chosen words
+weighed_lie : (k m n : ℕ) (nodes : List Node) (i : ℕ) (ws : List ℕ) (ts : Trees) → Weighed k m n nodes i ws ts → Reps k m nodes i ts
+weighed_lie k m n nodes i ws none h = tt
+weighed_lie k m n nodes i ws (more t ts) h = (h.1.0, weighed_lie k m n nodes (i + places t) (rest_of ws) ts h.1.1)
 
--- the invariant of `child`
-abbrev pub Past : List Node → ℕ → ℕ → ℕ → ℕ → ℕ → Type 0
-Past nodes first e x i y =
-    (k m n : ℕ) (plan : Plan) (counts : ℕ → ℕ) (ts : Trees) → Reps k m nodes first ts → first + places_all ts ≡ e → Wells m plan counts n ts → Left k m n plan counts nodes e ts x i y
+root_kids : (k m : ℕ) (nodes : List Node) (i : ℕ) (t : Tree) → Rep k m nodes i t → KidsLie nodes (i + 1) (i + (node_at nodes i).size)
+root_kids k m nodes i (over g) h = record { table = k; base = m; trees = none; reps = tt; ends = omega (arith, h.size) }
+root_kids k m nodes i (deal ws ts) h = record { table = k; base = m; trees = ts; reps = weighed_lie k m h.0 nodes (i + 1) ws ts h.1.1; ends = omega (arith, h.1.0.size) }
+root_kids k m nodes i (ours j ts) h = record { table = k; base = m; trees = ts; reps = h.1.1; ends = omega (arith, h.1.0.size) }
+root_kids k m nodes i (theirs j ts) h = record { table = k; base = m; trees = ts; reps = h.1.1; ends = omega (arith, h.1.0.size) }
 
-pub past_none : (nodes : List Node) (first e x : ℕ) → Past nodes first e x first x
-past_none nodes first e x k m n plan counts ts lie ends fits = record { trees = ts; lie = lie; ends = ends; fits = fits; fewer = omega arith; goes = λ c d chosen words. refl }
+-- the trees of a place can be gone over
+pub kids_lie :
+    (nodes : List Node) (i : ℕ) (s : Kids) → ∥ SomeRoot nodes i ∥₁ → s.nodes.now ≡ nodes → s.at ≡ i + 1 → s.end ≡ i + (node_at nodes i).size → ∥ KidsLie s.nodes.now s.at s.end ∥₁
+kids_lie nodes i s some a b c = rw (a, b, c) (∥∥₁_map some (λ h. root_kids h.table h.base nodes i h.tree h.rep))
 
-left_sure : (k m n : ℕ) (plan : Plan) (counts : ℕ → ℕ) (nodes : List Node) (e i : ℕ) (trees : Trees) → Reps k m nodes i trees → i + places_all trees ≡ e → i < e → length nodes < 2 ^ 32 → Sure nodes 1 i
-left_sure k m n plan counts nodes e i none lie ends lt small = absurd (omega arith)
-left_sure k m n plan counts nodes e i (more t ts) lie ends lt small =
-    record { inside = rep_inside k m nodes i t lie.0; parts_some = omega arith; size_some = rw (rep_size k m nodes i t lie.0) (places_pos t); small = small }
+module _ (k m n : ℕ) (plan : Plan) (counts : ℕ → ℕ) (nodes : List Node) where
+  picked : (ts : Trees) (i j : ℕ) → Reps k m nodes i ts → Wells m plan counts n ts → j < many ts → Picked k m n plan counts nodes ts j (start i ts j)
+  unfolding many
+  picked none i j lie fits lt = absurd (omega arith)
+  picked (more t ts) i zero lie fits lt = record { tree = t; lies = lie.0; fits = first_fits fits; fewer = omega arith; goes = λ c d chosen words. refl }
+  picked (more t ts) i (suc j) lie fits lt =
+      let p = picked ts (i + places t) j lie.1 (rest_fits fits) (omega arith) in
+      record { tree = p.tree; lies = p.lies; fits = p.fits; fewer = omega (arith, p.fewer); goes = p.goes }
 
-pub past_sure : (nodes : List Node) (first e x i y : ℕ) → SomeKids nodes first e → Past nodes first e x i y → i < e → Sure nodes 1 i
-past_sure nodes first e x i y s inv lt =
-    let a = inv s.k s.m s.n s.plan s.counts s.ts s.lie s.ends s.fits in
-    left_sure s.k s.m s.n s.plan s.counts nodes e i a.trees a.lie a.ends lt s.small
+  not_picked : (ts : Trees) (j : ℕ) → many ts ≤ j → (c d : ℕ) (chosen words : List ℕ) → picks m plan ts j c d chosen words ≡ refused 11 c
+  unfolding many
+  not_picked none j le c d chosen words = refl
+  not_picked (more t ts) zero le c d chosen words = absurd (omega arith)
+  not_picked (more t ts) (suc j) le c d chosen words = not_picked ts j (omega arith) c d chosen words
 
-module _ (k m n : ℕ) (plan : Plan) (counts : ℕ → ℕ) (nodes : List Node) (e : ℕ) (ts : Trees) (x i : ℕ) where
-  left_here :
-      (trees : Trees) → Reps k m nodes i trees → i + places_all trees ≡ e → i < e → Wells m plan counts n trees → places_all trees ≤ places_all ts →
-      ((c d : ℕ) (chosen words : List ℕ) → picks m plan ts x c d chosen words ≡ picks m plan trees 0 c d chosen words) → Picked k m n plan counts nodes ts x i
-  left_here none lie ends lt fits few goes = absurd (omega arith)
-  left_here (more t rest) lie ends lt fits few goes = record { tree = t; lies = lie.0; fits = first_fits fits; fewer = omega arith; goes = goes }
-
-  left_more :
-      (y : ℕ) (trees : Trees) → Reps k m nodes i trees → i + places_all trees ≡ e → i < e → Wells m plan counts n trees → places_all trees ≤ places_all ts →
-      ((c d : ℕ) (chosen words : List ℕ) → picks m plan ts x c d chosen words ≡ picks m plan trees (suc y) c d chosen words) →
-      Left k m n plan counts nodes e ts x (i + (node_at nodes i).size) y
-  left_more y none lie ends lt fits few goes = absurd (omega arith)
-  left_more y (more t rest) lie ends lt fits few goes =
-      let s = rep_size k m nodes i t lie.0 in
-      record {
-        trees = rest;
-        lie = subst (λ p. Reps k m nodes (i + p) rest) (sym s) lie.1;
-        ends = omega arith;
-        fits = rest_fits fits;
-        fewer = omega arith;
-        goes = goes;
-      }
-
-  left_gone :
-      (y : ℕ) (trees : Trees) → i + places_all trees ≡ e → e ≤ i →
-      ((c d : ℕ) (chosen words : List ℕ) → picks m plan ts x c d chosen words ≡ picks m plan trees y c d chosen words) →
-      (c d : ℕ) (chosen words : List ℕ) → picks m plan ts x c d chosen words ≡ refused 11 c
-  left_gone y none ends le goes = goes
-  left_gone y (more t rest) ends le goes = absurd (omega (arith, places_pos t))
-
-pub past_here :
-    (nodes : List Node) (first e x i y : ℕ) → Past nodes first e x i y → i < e → y ≡ 0 →
-    (k m n : ℕ) (plan : Plan) (counts : ℕ → ℕ) (ts : Trees) → Reps k m nodes first ts → first + places_all ts ≡ e → Wells m plan counts n ts → Picked k m n plan counts nodes ts x i
-past_here nodes first e x i y inv lt z k m n plan counts ts lie ends fits =
-    let a = inv k m n plan counts ts lie ends fits in
-    left_here k m n plan counts nodes e ts x i a.trees a.lie a.ends lt a.fits a.fewer (λ c d chosen words. a.goes c d chosen words ∙ ap (λ v. picks m plan a.trees v c d chosen words) z)
-
-pub past_more : (nodes : List Node) (first e x i y : ℕ) → Past nodes first e x i y → i < e → (y ≡ 0 → ⊥) → Past nodes first e x (i + (node_at nodes i).size) (y - 1)
-past_more nodes first e x i y inv lt nz k m n plan counts ts lie ends fits =
-    let a = inv k m n plan counts ts lie ends fits in
-    let z : y ≡ suc (y - 1) = omega arith in
-    left_more k m n plan counts nodes e ts x i (y - 1) a.trees a.lie a.ends lt a.fits a.fewer (λ c d chosen words. a.goes c d chosen words ∙ ap (λ v. picks m plan a.trees v c d chosen words) z)
-
-pub past_gone :
-    (nodes : List Node) (first e x i y : ℕ) → Past nodes first e x i y → e ≤ i →
-    (k m n : ℕ) (plan : Plan) (counts : ℕ → ℕ) (ts : Trees) → Reps k m nodes first ts → first + places_all ts ≡ e → Wells m plan counts n ts →
-    (c d : ℕ) (chosen words : List ℕ) → picks m plan ts x c d chosen words ≡ refused 11 c
-past_gone nodes first e x i y inv le k m n plan counts ts lie ends fits =
-    let a = inv k m n plan counts ts lie ends fits in
-    left_gone k m n plan counts nodes e ts x i y a.trees a.ends le a.goes
+  pub kids_chosen :
+      (ts : Trees) (i j : ℕ) (r : Option ℕ) → Reps k m nodes i ts → Wells m plan counts n ts → MatchOption r (many ts ≤ j) (λ x. (j < many ts) × (x ≡ start i ts j)) →
+      Chosen k m n plan counts nodes ts j r
+  kids_chosen ts i j None lie fits h = not_picked ts j h
+  kids_chosen ts i j (Some x) lie fits h = subst (λ v. Picked k m n plan counts nodes ts j v) (sym h.1) (picked ts i j lie fits h.0)
 
 -- what follows of the choices
-pub kids_few :
-    (m : ℕ) (plan : Plan) (ts : Trees) (choices : List ℕ) (made : ℕ) → length choices ≤ made → (j d : ℕ) (words : List ℕ) →
-    plays m plan (theirs j ts) made d (drop made choices) words ≡ refused 12 made
-kids_few m plan ts choices made le j d words = ap (λ v. plays m plan (theirs j ts) made d v words) (drop_all made choices le)
-
 pub kids_take :
     (m : ℕ) (plan : Plan) (ts : Trees) (choices : List ℕ) (made : ℕ) → made < length choices → (j d : ℕ) (words : List ℕ) →
     plays m plan (theirs j ts) made d (drop made choices) words ≡ picks m plan ts (get_or choices made 0) made d (drop (made + 1) choices) words
 kids_take m plan ts choices made lt j d words = ap (λ v. plays m plan (theirs j ts) made d v words) (drop_more choices made 0 lt)
 
-pub kids_gone :
-    (m : ℕ) (plan : Plan) (ts : Trees) (choices : List ℕ) (made x : ℕ) → made < length choices → x ≡ get_or choices made 0 →
-    ((c d : ℕ) (chosen words : List ℕ) → picks m plan ts x c d chosen words ≡ refused 11 c) → (j d : ℕ) (words : List ℕ) →
-    plays m plan (theirs j ts) made d (drop made choices) words ≡ refused 11 made
-kids_gone m plan ts choices made x lt e h j d words =
-    kids_take m plan ts choices made lt j d words ∙ (ap (λ v. picks m plan ts v made d (drop (made + 1) choices) words) (sym e) ∙ h made d (drop (made + 1) choices) words)
+-- what `nth` gives of the trees of the place at i
+pub nth_chosen :
+    (k m n : ℕ) (plan : Plan) (counts : ℕ → ℕ) (nodes : List Node) (i : ℕ) (ts : Trees) (s u : Kids) (j : ℕ) (r : Option ℕ) →
+    s.nodes.now ≡ nodes → s.at ≡ i + 1 → s.end ≡ i + (node_at nodes i).size → SkipsThenYields kid_steps s j r u →
+    Reps k m nodes (i + 1) ts → (i + 1) + places_all ts ≡ i + (node_at nodes i).size → Wells m plan counts n ts → Chosen k m n plan counts nodes ts j r
+nth_chosen k m n plan counts nodes i ts s u j r a b c ran lie ends fits =
+    let l : Reps k m s.nodes.now s.at ts = rw (a, b) lie in
+    let h = kids_nth k m ts s j r u l (omega arith) ran in
+    kids_chosen k m n plan counts nodes ts (i + 1) j r lie fits (subst (λ v. MatchOption r (many ts ≤ j) (λ x. (j < many ts) × (x ≡ start v ts j))) b h)
+
+pub kids_chooses :
+    (k m n : ℕ) (plan : Plan) (counts : ℕ → ℕ) (nodes : List Node) (ts : Trees) (choices : List ℕ) (made j : ℕ) (r : Option ℕ) →
+    made < length choices → j ≡ get_or choices made 0 → Chosen k m n plan counts nodes ts j r → Chooses k m n plan counts nodes ts choices made (ok_or r (NoChoice made))
+kids_chooses k m n plan counts nodes ts choices made j None lt e h = λ i d words.
+    kids_take m plan ts choices made lt i d words ∙ subst (λ v. picks m plan ts v made d (drop (made + 1) choices) words ≡ refused 11 made) e (h made d (drop (made + 1) choices) words)
+kids_chooses k m n plan counts nodes ts choices made j (Some x) lt e h = (lt, subst (λ v. Picked k m n plan counts nodes ts v x) e h)

@@ -1,7 +1,6 @@
-mod WordSteps
 mod Fits
 mod Falls
 mod Kids
 mod Plays
 mod Turns
-pub mod HandSteps
+mod HandSteps

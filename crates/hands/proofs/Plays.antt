@@ -17,7 +17,6 @@ use Rattle.hands.specs.declared.Refusal.{Refusal}
 use Rattle.hands.specs.declared.Refusal.TheVariants.{HighWord, FewWords}
 use Rattle.hands.specs.Laid.{Ended}
 use Rattle.hands.specs.Steps.{Falling, Fallen, Chooses}
-use Rattle.hands.proofs.Falls.{Beside}
 use Rattle.hands.proofs.Kids.{kids_take}
 
 -- a hand whose outcome is o has come to the place at i
@@ -34,11 +33,10 @@ heed m d [] f = refused 10 d
 heed m d (x ∷ words) f = pick (ltb x m) (f x words) (refused 9 d)
 
 -- at a place where a word is drawn
-pub record Drawing (k m : ℕ) (plan : Plan) (counts : ℕ → ℕ) (nodes : List Node) (L : ℕ → List ℕ → Trees → Type 0) (o : Outcome) (i made used : ℕ) (chosen words : List ℕ) : Type 0 where
+pub record Drawing (m : ℕ) (plan : Plan) (counts : ℕ → ℕ) (nodes : List Node) (o : Outcome) (i made used : ℕ) (chosen words : List ℕ) : Type 0 where
   pub n : ℕ
   pub ws : List ℕ
   pub ts : Trees
-  pub lie : L (i + 1) ws ts
   pub all : total ws ≡ m
   pub long : length ws ≡ many ts
   pub fits : Wells m plan counts n ts
@@ -83,56 +81,59 @@ heeds_ours m plan j ts made used chosen (x ∷ words) = refl
 module _ (k m : ℕ) (plan : Plan) (counts : ℕ → ℕ) (nodes : List Node) (o : Outcome) (i made used : ℕ) (chosen words : List ℕ) where
   deal_draws :
       (n : ℕ) (t : Tree) → Rep k m nodes i t → Well m plan counts n t → o ≡ plays m plan t made used chosen words → (parts : ℕ) → (node_at nodes i).place ≡ Deal parts →
-      Drawing k m plan counts nodes (Weighed k m parts nodes) o i made used chosen words
+      (d : Drawing m plan counts nodes o i made used chosen words) × Weighed k m parts nodes (i + 1) d.ws d.ts
   deal_draws n (over g) h f go parts p = let q : Deal parts ≡ Over (ends_of k g) = sym p ∙ h.place in let z : ◌≡◌ {A = ℕ} 0 1 = cc in absurd (omega arith)
   deal_draws n (ours j ts) h f go parts p = let q : Deal parts ≡ House h.0 j = sym p ∙ h.1.0.place in let z : ◌≡◌ {A = ℕ} 0 1 = cc in absurd (omega arith)
   deal_draws n (theirs j ts) h f go parts p = let q : Deal parts ≡ Guest h.0 j = sym p ∙ h.1.0.place in let z : ◌≡◌ {A = ℕ} 0 1 = cc in absurd (omega arith)
   deal_draws zero (deal ws ts) h f go parts p = elim f [ ]
   deal_draws (suc n) (deal ws ts) h (well_deal all long fits) go parts p =
       let q : Deal parts ≡ Deal h.0 = sym p ∙ h.1.0.place in
-      let u : h.0 ≡ parts = cc in
-      record {
-        n = n;
-        ws = ws;
-        ts = ts;
-        lie = subst (λ v. Weighed k m v nodes (i + 1) ws ts) u h.1.1;
-        all = all;
-        long = long;
-        fits = fits;
-        size = h.1.0.size;
-        goes = go ∙ heeds_deal m plan ws ts made used chosen words;
-      }
+      let u : h.0 ≡ parts = cc in (
+        record {
+          n = n;
+          ws = ws;
+          ts = ts;
+          all = all;
+          long = long;
+          fits = fits;
+          size = h.1.0.size;
+          goes = go ∙ heeds_deal m plan ws ts made used chosen words;
+        },
+        subst (λ v. Weighed k m v nodes (i + 1) ws ts) u h.1.1,
+      )
 
   pub stage_deal :
       Stage k m plan counts nodes o i made used chosen words → (parts : ℕ) → (node_at nodes i).place ≡ Deal parts →
-      Drawing k m plan counts nodes (Weighed k m parts nodes) o i made used chosen words
+      (d : Drawing m plan counts nodes o i made used chosen words) × Weighed k m parts nodes (i + 1) d.ws d.ts
   stage_deal s parts p = deal_draws s.n s.tree s.lies s.fits s.goes parts p
 
   ours_draws :
       (n : ℕ) (t : Tree) → Rep k m nodes i t → Well m plan counts n t → o ≡ plays m plan t made used chosen words → (z : Sight) (j : ℕ) → (node_at nodes i).place ≡ House z j →
-      Drawing k m plan counts nodes (Beside k m nodes (plan j)) o i made used chosen words
+      (d : Drawing m plan counts nodes o i made used chosen words) × (d.ws ≡ plan j) × Reps k m nodes (i + 1) d.ts
   ours_draws n (over g) h f go z j p = let q : House z j ≡ Over (ends_of k g) = sym p ∙ h.place in let z : ◌≡◌ {A = ℕ} 0 1 = cc in absurd (omega arith)
   ours_draws n (deal ws ts) h f go z j p = let q : House z j ≡ Deal h.0 = sym p ∙ h.1.0.place in let z : ◌≡◌ {A = ℕ} 0 1 = cc in absurd (omega arith)
   ours_draws n (theirs l ts) h f go z j p = let q : House z j ≡ Guest h.0 l = sym p ∙ h.1.0.place in let z : ◌≡◌ {A = ℕ} 0 1 = cc in absurd (omega arith)
   ours_draws zero (ours l ts) h f go z j p = elim f [ ]
   ours_draws (suc n) (ours l ts) h (well_ours all long fits) go z j p =
       let q : House z j ≡ House h.0 l = sym p ∙ h.1.0.place in
-      let u : l ≡ j = cc in
-      record {
-        n = n;
-        ws = plan l;
-        ts = ts;
-        lie = (ap plan u, h.1.1);
-        all = all;
-        long = long;
-        fits = fits;
-        size = h.1.0.size;
-        goes = go ∙ heeds_ours m plan l ts made used chosen words;
-      }
+      let u : l ≡ j = cc in (
+        record {
+          n = n;
+          ws = plan l;
+          ts = ts;
+          all = all;
+          long = long;
+          fits = fits;
+          size = h.1.0.size;
+          goes = go ∙ heeds_ours m plan l ts made used chosen words;
+        },
+        ap plan u,
+        h.1.1,
+      )
 
   pub stage_ours :
       Stage k m plan counts nodes o i made used chosen words → (z : Sight) (j : ℕ) → (node_at nodes i).place ≡ House z j →
-      Drawing k m plan counts nodes (Beside k m nodes (plan j)) o i made used chosen words
+      (d : Drawing m plan counts nodes o i made used chosen words) × (d.ws ≡ plan j) × Reps k m nodes (i + 1) d.ts
   stage_ours s z j p = ours_draws s.n s.tree s.lies s.fits s.goes z j p
 
   theirs_choose :
@@ -162,15 +163,15 @@ heed_unfit m d (x ∷ words) f e h =
           ap (λ v. refused (number_of v) (place_of v)) u ∙ sym (ap (λ b. pick b (f x words) (refused 9 d)) t))
     ]
 
-module _ (k m : ℕ) (plan : Plan) (counts : ℕ → ℕ) (nodes : List Node) (L : ℕ → List ℕ → Trees → Type 0) (o : Outcome) (i made used : ℕ) (chosen words : List ℕ) where
-  pub draw_unfit : Drawing k m plan counts nodes L o i made used chosen words → (e : Refusal) → unfit m used words ≡ Some e → Ended k o (Err e)
+module _ (k m : ℕ) (plan : Plan) (counts : ℕ → ℕ) (nodes : List Node) (o : Outcome) (i made used : ℕ) (chosen words : List ℕ) where
+  pub draw_unfit : Drawing m plan counts nodes o i made used chosen words → (e : Refusal) → unfit m used words ≡ Some e → Ended k o (Err e)
   draw_unfit s e h = record { outcome = heed_unfit m used words (λ x rest. lands m plan s.ts s.ws x made (suc used) chosen rest) e h ∙ sym s.goes; shared = tt }
 
-  pub draw_falls : (s : Drawing k m plan counts nodes L o i made used chosen words) (x : ℕ) → x < m → Falling m s.n plan counts s.ws s.ts x
+  pub draw_falls : (s : Drawing m plan counts nodes o i made used chosen words) (x : ℕ) → x < m → Falling m s.n plan counts s.ws s.ts x
   draw_falls s x lt = record { inside = omega (arith, s.all); long = s.long; fits = s.fits }
 
   pub draw_on :
-      (s : Drawing k m plan counts nodes L o i made used chosen words) (x : ℕ) (rest : List ℕ) → words ≡ x ∷ rest → x < m → (r : ℕ) → Fallen k m s.n plan counts nodes s.ws s.ts x r →
+      (s : Drawing m plan counts nodes o i made used chosen words) (x : ℕ) (rest : List ℕ) → words ≡ x ∷ rest → x < m → (r : ℕ) → Fallen k m s.n plan counts nodes s.ws s.ts x r →
       Stage k m plan counts nodes o r made (used + 1) chosen rest
   draw_on s x rest e lt r f =
       let u : o ≡ heed m used (x ∷ rest) (λ y more_words. lands m plan s.ts s.ws y made (suc used) chosen more_words) =
@@ -186,7 +187,7 @@ module _ (k m : ℕ) (plan : Plan) (counts : ℕ → ℕ) (nodes : List Node) (L
       }
 
   pub draw_less :
-      (s : Drawing k m plan counts nodes L o i made used chosen words) (x r : ℕ) → Fallen k m s.n plan counts nodes s.ws s.ts x r → (node_at nodes r).size < (node_at nodes i).size
+      (s : Drawing m plan counts nodes o i made used chosen words) (x r : ℕ) → Fallen k m s.n plan counts nodes s.ws s.ts x r → (node_at nodes r).size < (node_at nodes i).size
   draw_less s x r f = omega (arith, rep_size k m nodes r f.tree f.lies, f.fewer, s.size)
 
 module _ (k m : ℕ) (plan : Plan) (counts : ℕ → ℕ) (nodes : List Node) (o : Outcome) (i made used : ℕ) (choices words : List ℕ) where

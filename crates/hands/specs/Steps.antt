@@ -1,11 +1,14 @@
 -- The steps of a hand: how a word falls among trees, and which tree a choice leads to. Assumes nothing: these are definitions.
-use Rattle.std.specs.Prelude.{◌≡◌, ℕ, suc, ◌+◌, ◌^◌, ◌<◌, ◌≤◌, List, length, take, drop, Some, None, Ok, Err, Option, Result, slice_index}
+use Rattle.std.specs.Prelude.{◌≡◌, ℕ, suc, ◌+◌, ◌^◌, ◌<◌, ◌≤◌, List, length, take, drop, Some, None, Ok, Err, Option, Result, slice_index, slice_index_or}
 use Rattle.cards.specs.Game.{Tree, theirs, Trees, Plan, many, total}
 use Rattle.cards.specs.Promise.{Well, Wells}
 use Rattle.cards.specs.Played.{refused, plays, lands, picks}
 use Rattle.cards.specs.Reckon.{places, places_all}
 use Rattle.tree.specs.Rep.{Rep, Reps, Weighed}
+use Rattle.tree.specs.declared.Place.{Place}
+use Rattle.tree.specs.declared.Place.TheVariants.{Over, Deal, House, Guest}
 use Rattle.tree.specs.declared.Node.{Node}
+use Rattle.plans.specs.Plan.{no_row}
 use Rattle.plans.specs.declared.Row.{Row}
 use Rattle.hands.specs.Refused.{number_of, place_of}
 use Rattle.hands.specs.declared.Refusal.{Refusal}
@@ -49,18 +52,24 @@ pub record SomeRow (nodes : List Node) (row : Row) (i x : ℕ) : Type 0 where
   pub falls : Falling m n plan counts (take q row.weights) ts x
   pub small : length nodes < 2 ^ 32
 
--- some trees lie from i on, up to e
-pub record SomeKids (nodes : List Node) (i e : ℕ) : Type 0 where
-  pub k : ℕ
-  pub m : ℕ
-  pub n : ℕ
-  pub plan : Plan
-  pub counts : ℕ → ℕ
-  pub ts : Trees
-  pub lie : Reps k m nodes i ts
-  pub ends : i + places_all ts ≡ e
-  pub fits : Wells m plan counts n ts
-  pub small : length nodes < 2 ^ 32
+-- some word falls at such a place, whose trees lie from i on, up to e
+abbrev pub SomeFall : ℕ → List Row → List Node → Place → ℕ → ℕ → ℕ → Type 0
+SomeFall m rows nodes (Over o) i e x = ⊥
+SomeFall m rows nodes (Deal parts) i e x = (f : SomeDeal m parts nodes i x) × (i + places_all f.ts ≡ e)
+SomeFall m rows nodes (House z s) i e x = (s < length rows) × (f : SomeRow nodes (slice_index_or rows s no_row) i x) × (i + places_all f.ts ≡ e)
+SomeFall m rows nodes (Guest z s) i e x = ⊥
+
+-- the word has fallen to the tree that lies from r on: by the shares of a deal, or by the weights of a row, however many of them count
+abbrev pub Falls : ℕ → List Row → List Node → Place → ℕ → ℕ → ℕ → Type 0
+Falls m rows nodes (Over e) i x r = Unit {0}
+Falls m rows nodes (Deal parts) i x r =
+    (k n : ℕ) (plan : Plan) (counts : ℕ → ℕ) (ws : List ℕ) (ts : Trees) → Weighed k m parts nodes i ws ts →
+    Falling m n plan counts ws ts x → Fallen k m n plan counts nodes ws ts x r
+Falls m rows nodes (House z s) i x r =
+    let row = slice_index_or rows s no_row in
+    (k base n q : ℕ) (plan : Plan) (counts : ℕ → ℕ) (ts : Trees) → Reps k base nodes i ts →
+    Falling base n plan counts (take q row.weights) ts x → Fallen k base n plan counts nodes (take q row.weights) ts x r
+Falls m rows nodes (Guest z s) i x r = Unit {0}
 
 -- the tree of choice j lies from r on
 pub record Picked (k m n : ℕ) (plan : Plan) (counts : ℕ → ℕ) (nodes : List Node) (ts : Trees) (j r : ℕ) : Type 0 where

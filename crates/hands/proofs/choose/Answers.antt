@@ -1,11 +1,25 @@
-use Rattle.std.proofs.lemmas.List.{get_or_read}
-use Rattle.hands.proofs.Kids.{kids_few, kids_gone}
+use Rattle.std.proofs.Common.{◌≡◌, ◌<◌, length, get_or, Some, None, rules}
+use Rattle.hands.proofs.Kids.{kids_lie, nth_chosen, kids_chooses}
 use Rattle.hands.proofs.choose.Goals as goal
 
-pub returns-in_default : goal.returns-in_default
-returns-in_default c = λ k m n plan counts ts lie ends fits. kids_few m plan ts c.args.choices.now c.args.made c.in_default.ensures.lookup.3
+pub nth-requires : goal.nth-requires
+nth-requires c = kids_lie _ _ c.of.result c.requires c.of.ensures.nodes c.of.ensures.first c.of.ensures.end
 
-pub returns-in_default-child : goal.returns-in_default-child
-returns-in_default-child c = λ k m n plan counts ts lie ends fits.
-    kids_gone m plan ts c.args.choices.now c.args.made c.in-Some.choice.now c.in-Some.ensures.lookup.3.0
-    (get_or_read _ _ _ c.in-Some.ensures.lookup.3.0 c.in-Some.ensures.lookup.1 0) (c.in_default-child.ensures k m n plan counts ts lie ends fits)
+pub returns : goal.returns
+returns c = λ k m n plan counts ts lie ends fits.
+    let cs = c.args.choices.now in
+    let j = c.in-Some.choice.now in
+    let lt : c.args.made < length cs = search rules in
+    let e : j ≡ get_or cs c.args.made 0 = search rules in
+    let r = Some c.in-Some-nth.kid in
+    kids_chooses k m n plan counts c.args.nodes.now ts cs c.args.made j r lt e
+    (nth_chosen k m n plan counts _ _ ts c.of.result c.nth.new.self j r c.of.ensures.nodes c.of.ensures.first c.of.ensures.end c.in-Some-nth.ensures.ran lie ends fits)
+
+pub returns-in_default-nth : goal.returns-in_default-nth
+returns-in_default-nth c = λ k m n plan counts ts lie ends fits.
+    let cs = c.args.choices.now in
+    let j = c.in-Some.choice.now in
+    let lt : c.args.made < length cs = search rules in
+    let e : j ≡ get_or cs c.args.made 0 = search rules in
+    kids_chooses k m n plan counts c.args.nodes.now ts cs c.args.made j None lt e
+    (nth_chosen k m n plan counts _ _ ts c.of.result c.nth.new.self j None c.of.ensures.nodes c.of.ensures.first c.of.ensures.end c.in_default-nth.ensures.ran lie ends fits)
