@@ -44,6 +44,7 @@ pub struct Reckoned {
 }
 
 // How many entries stand in the row now, and what is summed up.
+// Kept: the row is lent, and a part of it is lent on, so how many of its entries count stands beside it.
 #[derive(Clone, Copy)]
 struct Grown {
     len: usize,
@@ -203,11 +204,7 @@ impl Game<'_> {
         for j in 0..len {
             let e = work[j];
             let at = child(self.nodes, e.at, k);
-            let kid = Entry {
-                times: e.times,
-                left: e.left,
-                at,
-            };
+            let kid = Entry { at, ..e };
             let next = self.expand(work, grown.len, kid);
             grown = grown.then(next);
         }
@@ -308,8 +305,8 @@ impl Refusal {
 impl From<tree::Refusal> for Refusal {
     ghost from_gives = { λ e r. r ≡ OfTree e };
 
-    fn from(e: tree::Refusal) -> Refusal {
-        Refusal::OfTree(e)
+    fn from(refusal: tree::Refusal) -> Refusal {
+        Refusal::OfTree(refusal)
     }
 }
 
