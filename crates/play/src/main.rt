@@ -19,6 +19,7 @@ A file that is turned away prints `refused NUMBER at PLACE`, and so does a hand;
 ";
 
 // The bytes of the named file, or of standard input.
+// Kept: three programs have this function; in a library it could promise nothing of the bytes, and it is no plainer there.
 fn input(rt: &HostRuntime, heap: Global, path: Option<String>) -> io::Result<Vec<u8>> {
     match path {
         Some(path) => fs::read(rt, path),
@@ -32,13 +33,9 @@ fn input(rt: &HostRuntime, heap: Global, path: Option<String>) -> io::Result<Vec
 
 fn main(rt: HostRuntime) -> io::Result<()> {
     let heap = rt.alloc();
-    let mut args = env::args(&rt)?;
-    let _program = args.next();
-    let path = args.next();
-    if let Some(word) = &path {
-        if word.as_str() == "--help" {
-            return rt.print(HELP);
-        }
+    let path = env::args(&rt)?.nth(1);
+    if path.as_ref().is_some_and(|word| word.as_str() == "--help") {
+        return rt.print(HELP);
     }
     let bytes = input(&rt, heap, path)?;
     rt.print(answers::play(heap, bytes.as_slice())?)

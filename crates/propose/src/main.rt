@@ -6,9 +6,10 @@ ghost use Rattle.rules.specs.Sound.{Sound};
 
 use anyhow::anyhow;
 use rules::{Ends, Player, Sheet};
-use search::Progress;
+use search::{Game, Progress};
 use std::alloc::{AllocError, Global};
 use std::io::{Read, Write};
+use std::str::FromStr;
 use std::{env, fs, io};
 use tree::{History, Line, Node, Place, Sight, Sizes};
 
@@ -35,6 +36,23 @@ enum Order {
     Plan(Player),
     File,
 }
+
+impl FromStr for Order {
+    type Err = Unknown;
+
+    fn from_str(word: &str) -> Result<Order, Unknown> {
+        match word {
+            "house" => Ok(Order::Plan(Player::House)),
+            "guest" => Ok(Order::Plan(Player::Guest)),
+            "both" => Ok(Order::File),
+            _ => Err(Unknown),
+        }
+    }
+}
+
+// A word that is no order.
+#[derive(Clone, Copy)]
+struct Unknown;
 
 // Why there is no plan: a refusal, by its number and place, or no memory.
 #[derive(Clone, Copy)]
@@ -99,26 +117,6 @@ fn blank_sight() -> Sight {
     }
 }
 
-// The first so many.
-fn sights_of(sights: &[Sight], n: u32) -> &[Sight] {
-    let n = n as usize;
-    if n <= sights.len() {
-        &sights[0..n]
-    } else {
-        sights
-    }
-}
-
-// The bytes of the rule sheet.
-fn front(bytes: &[u8]) -> &[u8] {
-    if bytes.len() < 9 { bytes } else { &bytes[0..9] }
-}
-
-// What follows the rule sheet.
-fn past(bytes: &[u8]) -> &[u8] {
-    if bytes.len() < 9 { &[] } else { &bytes[9..] }
-}
-
 // The number m after the rule sheet, checked.
 fn base(sheet: Sheet, sizes: Sizes, chair: Player, bytes: &[u8]) -> Result<u32, Fault>
     requires { Sound sheet }
@@ -143,7 +141,8 @@ fn plan(
     rounds: u32,
     bytes: &[u8],
 ) -> Result<Vec<u8>, Fault> {
-    let sheet = rules::read(front(bytes))?;
+    let (front, past) = bytes.split_at(bytes.len().min(9));
+    let sheet = rules::read(front)?;
     let mut nodes = vec![in heap; blank_node(); ROOM]?;
     let mut house = vec![in heap; blank_sight(); ROOM]?;
     let mut guest = vec![in heap; blank_sight(); ROOM]?;
@@ -153,34 +152,21 @@ fn plan(
         house.as_mut_slice(),
         guest.as_mut_slice(),
     )?;
-    let m = base(sheet, sizes, chair, past(bytes))?;
-    let house = sights_of(house.as_slice(), sizes.house.sights);
-    let guest = sights_of(guest.as_slice(), sizes.guest.sights);
+    let m = base(sheet, sizes, chair, past)?;
+    let house = &house[..house.len().min(sizes.house.sights as usize)];
+    let guest = &guest[..guest.len().min(sizes.guest.sights as usize)];
     let (own, others) = match chair {
         Player::House => (house, guest),
         Player::Guest => (guest, house),
     };
-    let lines = Lines { rt };
-    Ok(search::plan(
-        heap,
-        &lines,
-        nodes.as_slice(),
+    let game = Game {
+        nodes: nodes.as_slice(),
         own,
         others,
-        sheet.raises,
+        raises: sheet.raises,
         chair,
-        m,
-        rounds,
-    )?)
-}
-
-// The bytes of the rule sheet and of m.
-fn opening(bytes: &[u8]) -> &[u8] {
-    if bytes.len() < 13 {
-        bytes
-    } else {
-        &bytes[0..13]
-    }
+    };
+    Ok(search::plan(heap, &Lines { rt }, game, m, rounds)?)
 }
 
 // The bytes that are asked for.
@@ -197,7 +183,8 @@ fn ordered(
             let house = plan(rt, heap, Player::House, rounds, bytes)?;
             let guest = plan(rt, heap, Player::Guest, rounds, bytes)?;
             let mut file = Vec::new(heap);
-            file.extend_from_slice(opening(bytes))?;
+            // the rule sheet and m
+            file.extend_from_slice(&bytes[..bytes.len().min(13)])?;
             file.extend_from_slice(house.as_slice())?;
             file.extend_from_slice(guest.as_slice())?;
             Ok(file)
@@ -206,6 +193,7 @@ fn ordered(
 }
 
 // The bytes of the named file, or of standard input.
+// Kept: three programs have this function; in a library it could promise nothing of the bytes, and it is no plainer there.
 fn input(rt: &HostRuntime, heap: Global, path: Option<String>) -> io::Result<Vec<u8>> {
     match path {
         Some(path) => fs::read(rt, path),
@@ -214,15 +202,6 @@ fn input(rt: &HostRuntime, heap: Global, path: Option<String>) -> io::Result<Vec
             rt.stdin().read_to_end(&mut bytes)?;
             Ok(bytes)
         }
-    }
-}
-
-fn order_of(word: &str) -> Option<Order> {
-    match word {
-        "house" => Some(Order::Plan(Player::House)),
-        "guest" => Some(Order::Plan(Player::Guest)),
-        "both" => Some(Order::File),
-        _ => None,
     }
 }
 
@@ -253,8 +232,7 @@ fn answer(
 
 fn main(rt: HostRuntime) -> anyhow::Result<()> {
     let heap = rt.alloc();
-    let mut args = env::args(&rt)?;
-    let _program = args.next();
+    let mut args = env::args(&rt)?.skip(1);
     let Some(first) = args.next() else {
         rt.eprint(HELP)?;
         return Err(anyhow!("no chair"));
@@ -262,13 +240,11 @@ fn main(rt: HostRuntime) -> anyhow::Result<()> {
     if first.as_str() == "--help" {
         return Ok(rt.print(HELP)?);
     }
-    if let Some(second) = args.next() {
-        if let (Some(order), Ok(rounds)) = (
-            order_of(first.as_str()),
-            second.as_str().parse::<u32>(),
-        ) {
-            return answer(&rt, heap, order, rounds, args.next());
-        }
+    if let (Ok(order), Some(Ok(rounds))) = (
+        first.as_str().parse::<Order>(),
+        args.next().map(|word| word.as_str().parse::<u32>()),
+    ) {
+        return answer(&rt, heap, order, rounds, args.next());
     }
     rt.eprint(HELP)?;
     Err(anyhow!("not understood"))

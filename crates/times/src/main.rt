@@ -5,7 +5,7 @@
 use answers::{Stage, Stages};
 use anyhow::anyhow;
 use std::time::Instant;
-use std::{env, fs, io};
+use std::{env, fmt, fs, iter};
 
 const HELP: &str = "usage: times RUNS FILE...
 
@@ -18,40 +18,44 @@ house's plan over it, or `-` where a file is refused.
 // There is memory for every tree that can be built.
 const ROOM: u32 = 65536;
 
-// Takes the time of a building and of a reckoning, in nanoseconds, and keeps the least of each.
+// A time in nanoseconds, if there is one.
+#[derive(Clone, Copy)]
+struct Time(Option<u128>);
+
+impl Time {
+    // This one, or the time since a reading of the clock where that is less.
+    fn or_less(self, rt: &HostRuntime, begun: Option<Instant>) -> Time {
+        let (Some(begun), Ok(now)) = (begun, Instant::now(rt)) else {
+            return self;
+        };
+        let nanos = now.duration_since(begun).as_nanos();
+        Time(Some(self.0.map_or(nanos, |least| least.min(nanos))))
+    }
+}
+
+impl fmt::Display for Time {
+    fn fmt<W: fmt::Write>(&self, f: &mut fmt::Formatter<W>) -> fmt::Result {
+        match self.0 {
+            Some(nanos) => write!(f, "{nanos}"),
+            None => f.write_str("-"),
+        }
+    }
+}
+
+// Takes the time of a building and of a reckoning, and keeps the least of each.
 #[derive(Clone, Copy)]
 struct Watch<'a> {
     rt: &'a HostRuntime,
     begun: Option<Instant>,
-    build: Option<u128>,
-    reckon: Option<u128>,
-}
-
-// The nanoseconds since a reading of the clock, or those before where they are less or the clock cannot be read.
-fn least(rt: &HostRuntime, begun: Option<Instant>, before: Option<u128>) -> Option<u128> {
-    let (Some(begun), Ok(now)) = (begun, Instant::now(rt)) else {
-        return before;
-    };
-    let nanos = now.duration_since(begun).as_nanos();
-    match before {
-        Some(least) if least <= nanos => before,
-        _ => Some(nanos),
-    }
-}
-
-// A time as it is written, or `-` where there is none.
-fn write_time(rt: &HostRuntime, nanos: Option<u128>) -> io::Result<()> {
-    match nanos {
-        Some(nanos) => eprint!(rt; " {nanos}"),
-        None => rt.eprint(" -"),
-    }
+    build: Time,
+    reckon: Time,
 }
 
 impl Stages for Watch<'_> {
     fn stage(&mut self, stage: Stage) {
         match stage {
-            Stage::Built => self.build = least(self.rt, self.begun, self.build),
-            Stage::Reckoned => self.reckon = least(self.rt, self.begun, self.reckon),
+            Stage::Built => self.build = self.build.or_less(self.rt, self.begun),
+            Stage::Reckoned => self.reckon = self.reckon.or_less(self.rt, self.begun),
             Stage::Building | Stage::Reckoning => {}
         }
         self.begun = Instant::now(self.rt).ok();
@@ -61,8 +65,7 @@ impl Stages for Watch<'_> {
 // Reckons a file so often, and prints what it comes to and how long it took.
 fn run(rt: &HostRuntime, runs: u32, path: String) -> anyhow::Result<()> {
     let heap = rt.alloc();
-    let mut name = String::new(heap);
-    name.push_str(path.as_str())?;
+    let name = path.clone()?;
     let Ok(input) = fs::read(rt, path) else {
         eprintln!(rt; "times: {name} cannot be read; see times --help")?;
         return Err(anyhow!("no file"));
@@ -70,24 +73,21 @@ fn run(rt: &HostRuntime, runs: u32, path: String) -> anyhow::Result<()> {
     let mut watch = Watch {
         rt,
         begun: None,
-        build: None,
-        reckon: None,
+        build: Time(None),
+        reckon: Time(None),
     };
-    let mut text = answers::reckon_in_stages(heap, &mut watch, ROOM, input.as_slice())?;
-    for _run in 1..runs {
+    let mut text = String::new(heap);
+    for _run in 0..runs {
         text = answers::reckon_in_stages(heap, &mut watch, ROOM, input.as_slice())?;
     }
     println!(rt; "{name}")?;
     rt.print(text)?;
-    eprint!(rt; "{name}")?;
-    write_time(rt, watch.build)?;
-    write_time(rt, watch.reckon)?;
-    Ok(rt.eprint("\n")?)
+    let Watch { build, reckon, .. } = watch;
+    Ok(eprintln!(rt; "{name} {build} {reckon}")?)
 }
 
 fn main(rt: HostRuntime) -> anyhow::Result<()> {
-    let mut args = env::args(&rt)?;
-    let _program = args.next();
+    let mut args = env::args(&rt)?.skip(1);
     let Some(word) = args.next() else {
         rt.eprint(HELP)?;
         return Err(anyhow!("no number of runs"));
@@ -103,8 +103,7 @@ fn main(rt: HostRuntime) -> anyhow::Result<()> {
         rt.eprint(HELP)?;
         return Err(anyhow!("no run"));
     }
-    run(&rt, runs, path)?;
-    for path in args {
+    for path in iter::once(path).chain(args) {
         run(&rt, runs, path)?;
     }
     Ok(())

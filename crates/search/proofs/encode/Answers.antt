@@ -1,14 +1,12 @@
-use Rattle.std.proofs.Common.{get_or, vec_items, refl, arith}
-use Rattle.search.proofs.Steps.{no_row, left_more, left_none, left_all}
+use Rattle.std.proofs.Common.{vec_items, ap, ◌∙◌}
+use Rattle.std.proofs.lemmas.Slice.Zip.{either_empty_from_Zip}
+use Rattle.plans.specs.Bytes.{plan_as}
+use Rattle.search.proofs.Round.{round}
+use Rattle.search.proofs.Steps.{written_all}
 use Rattle.search.proofs.encode.Goals as goal
 
-pub loop-i-preserved : goal.loop-i-preserved
-loop-i-preserved c =
-    left_more c.args.raises c.args.sights.now c.args.rows.now c.loop-i.i (vec_items c.loop-i.bytes) c.loop-i.invariant c.loop-i-test.true (omega (arith, c.requires))
-    c.offers.result (get_or c.args.rows.now c.loop-i.i no_row) (vec_items c.push_row.new.bytes) c.offers.ensures refl c.in_ok-push_row.ensures
-
 pub returns : goal.returns
-returns c = record {
-  bytes = left_none c.args.raises c.args.sights.now c.args.rows.now c.loop-i.i (vec_items c.loop-i.bytes) c.loop-i.invariant c.loop-i-test.false;
-  taken = left_all c.args.raises c.args.sights.now c.args.rows.now c.loop-i.i (vec_items c.loop-i.bytes) c.loop-i.invariant c.loop-i-test.false;
-}
+returns c =
+    let h = either_empty_from_Zip c.loop-sight.sight-iterator c.next.new.self c.next.result c.in-None.is c.next.ensures.steps in
+    let e = written_all c.args.raises _ _ (vec_items c.loop-sight.bytes) _ h c.loop-sight.invariant in
+    record { bytes = e; taken = λ m t. ap (plan_as c.args.raises c.args.sights.now m) e ∙ round c.args.raises m c.args.sights.now c.args.rows.now t }

@@ -3,4 +3,4 @@ use Rattle.search.specs.Taken.{Taken}
 use Rattle.search.proofs.propose.Given as goal
 
 abbrev pub invariant-loop-i : goal.invariant-loop-i
-invariant-loop-i g l = Taken l.raises l.m (take l.i l.own) (vec_items l.rows)
+invariant-loop-i g l = Taken l.game.raises l.m (take l.i l.game.own.now) (vec_items l.rows)
