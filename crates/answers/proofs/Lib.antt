@@ -1,3 +1,4 @@
+mod Alone
 mod Openings
 mod Wholes
 mod Begins

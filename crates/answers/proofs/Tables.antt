@@ -1,11 +1,10 @@
 -- What is promised of the hands that are played holds. Assumes nothing.
 use Rattle.std.proofs.Common.{◌≡◌, ℕ, ◌^◌, ◌<◌, List, [], ◌∷◌, ◌++◌, take, Ok, Err, codes, Result, sym, refl, ap, ◌∙◌, append_assoc, append-nil}
 use Rattle.answers.specs.Text.{line}
-use Rattle.cards.specs.Played.{Outcome, played, trace}
+use Rattle.cards.specs.Played.{Outcome}
 use Rattle.cards.specs.Promise.{WordsFall, Well}
-use Rattle.cards.specs.Table.{WaysArePlayed, PlayedIsAWay, MatchHolds, MatchIsMet}
+use Rattle.cards.specs.Table.{PlayedIsAWay, MatchHolds, MatchIsMet}
 use Rattle.cards.proofs.WordsFall.{words_fall}
-use Rattle.cards.proofs.WaysPlayed.{ways_are_played}
 use Rattle.cards.proofs.PlayedWay.{played_is_a_way}
 use Rattle.cards.proofs.Guests.{match_holds, match_is_met}
 use Rattle.rules.specs.declared.Player.TheVariants.{House, Guest}
@@ -17,7 +16,6 @@ use Rattle.hands.specs.declared.Refusal as H
 use Rattle.hands.specs.Refused.{outcome_of}
 use Rattle.hands.specs.Laid.{Shared}
 use Rattle.hands.specs.Match.{outcomes_of, hands_of}
-use Rattle.plans.specs.Plan.{plan_of}
 use Rattle.answers.specs.declared.Opening.{Opening}
 use Rattle.answers.specs.Files.{past_m, plan_length, plan_in}
 use Rattle.answers.specs.Ready.{Begun}
@@ -25,10 +23,10 @@ use Rattle.answers.specs.Promised.{plan_read}
 use Rattle.answers.specs.Hands.{hand_line, outcome_line, hand_lines, play_plan, table_of, tree_of, AtTable, PlaysIn}
 use Rattle.answers.proofs.Wholes.{stands, well}
 use Rattle.answers.proofs.Begins.{opened_ready}
-use Rattle.answers.proofs.Promises.{keeps}
+use Rattle.answers.proofs.Promises.{keeps, way_played}
 
 at_table : (o : Opening) (r : Begun o) (bytes : List ℕ) (rows : List Weights) → plan_in o House bytes ≡ Ok rows → AtTable o rows
-unfolding WaysArePlayed PlayedIsAWay WordsFall MatchHolds MatchIsMet
+unfolding PlayedIsAWay WordsFall MatchHolds MatchIsMet
 at_table o r bytes rows e =
     let m = o.m in
     let n = word_count o.sheet House in
@@ -38,8 +36,7 @@ at_table o r bytes rows e =
     let w : Well m plan counts n t = well o r House bytes rows e in
     record {
       keeps = keeps o r House bytes rows e;
-      ways = λ way l words row.
-          ap (λ c. played m plan t c words) (sym (append-nil (trace plan way t words))) ∙ ap (played m plan t (trace plan way t words ++ [])) (sym (append-nil words)) ∙ ways_are_played m n plan counts t w way l words row [] [];
+      ways = way_played o r House bytes rows e;
       is_a_way = played_is_a_way m n plan counts t w (stands o r).fresh ((stands o r).some Guest);
       sums = words_fall m n plan counts t w;
       holds = match_holds m n (table_of o) plan counts t w ((stands o r).some Guest) (stands o r).table;
@@ -64,10 +61,9 @@ step_lines k out out' r os os' eo sh es =
     ∙ ap (λ l. out ++ line l X) (same_line k r sh) ∙ ap (λ l. out ++ hand_lines k l) (sym es)
 
 -- nothing is left to print
-pub printed : (o : Opening) (rows rows' : List Weights) (out out' input : List ℕ) → out ≡ [] → rows' ≡ rows →
-    out' ++ hand_lines (table_of o) (outcomes_of o.m (plan_of rows' (choices o.sheet House)) (tree_of o) []) ≡ out ++ hand_lines (table_of o) (outcomes_of o.m (plan_of rows' (choices o.sheet House)) (tree_of o) input) →
+pub printed : (o : Opening) (rows : List Weights) (out out' input : List ℕ) → out ≡ [] →
+    out' ++ hand_lines (table_of o) (outcomes_of o.m (plan_read o House rows) (tree_of o) []) ≡ out ++ hand_lines (table_of o) (outcomes_of o.m (plan_read o House rows) (tree_of o) input) →
     out' ≡ play_plan o input (Ok rows)
 unfolding hands_of
-printed o rows rows' out out' input eo er e =
-    sym (append-nil out') ∙ e ∙ ap (λ l. l ++ hand_lines (table_of o) (outcomes_of o.m (plan_of rows' (choices o.sheet House)) (tree_of o) input)) eo
-    ∙ ap (λ v. hand_lines (table_of o) (outcomes_of o.m (plan_of v (choices o.sheet House)) (tree_of o) input)) er
+printed o rows out out' input eo e =
+    sym (append-nil out') ∙ e ∙ ap (λ l. l ++ hand_lines (table_of o) (outcomes_of o.m (plan_read o House rows) (tree_of o) input)) eo

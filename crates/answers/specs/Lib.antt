@@ -5,3 +5,4 @@ pub mod Promised
 pub mod Hands
 pub mod Steps
 pub mod Proposed
+pub mod Faults

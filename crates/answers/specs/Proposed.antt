@@ -9,8 +9,8 @@ use Rattle.plans.specs.Bases.{size_of}
 use Rattle.answers.specs.declared.Refusal.{Refusal}
 use Rattle.answers.specs.declared.Refusal.TheVariants.{OfPlan}
 use Rattle.answers.specs.declared.Opening.{Opening}
-use Rattle.answers.specs.declared.NoPlan.{NoPlan}
-use Rattle.answers.specs.declared.NoPlan.TheVariants.{Refused, Memory}
+use Rattle.answers.specs.declared.Fault.{Fault}
+use Rattle.answers.specs.declared.Fault.TheVariants.{Refused, Memory}
 use Rattle.answers.specs.Files.{opened_in, plan_in}
 
 -- a plan for the guest is one for the turned tree, whose sums have to be small too
@@ -35,6 +35,6 @@ pub record Proposed (space : ℕ) (w : Player) (bytes plan : List ℕ) : Type 0 
   pub taken : plan_in opening w plan ≡ Ok rows
 
 -- there is no plan just where the file is refused, or memory is wanting
-abbrev pub Unproposed : ℕ → Player → List ℕ → NoPlan → Type 0
+abbrev pub Unproposed : ℕ → Player → List ℕ → Fault → Type 0
 Unproposed space w bytes (Refused e) = opened_for space w bytes ≡ Err e
 Unproposed space w bytes Memory = Unit {0}

@@ -5,9 +5,11 @@ use Rattle.hands.specs.Match.{outcomes_of}
 use Rattle.answers.specs.Hands.{hand_lines}
 use Rattle.cards.specs.Game.{Tree}
 use Rattle.cards.specs.Reckon.{worst}
+use Rattle.rules.specs.declared.Player.{Player}
 use Rattle.rules.specs.declared.Player.TheVariants.{House, Guest}
 use Rattle.rules.specs.Play.{purse}
 use Rattle.rules.specs.Sights.{tree}
+use Rattle.rules.specs.Statements.{seat}
 use Rattle.tree.specs.declared.Sight.{Sight}
 use Rattle.tree.specs.declared.Sizes.{Sizes}
 use Rattle.tree.specs.declared.Node.{Node}
@@ -27,6 +29,10 @@ pub record Roomy (z : Sizes) (nodes : List Node) (house guest : List Sight) : Ty
   pub ours : length house ≡ z.house.sights
   pub theirs : length guest ≡ z.guest.sights
 
+-- the tree lies in the nodes as the player meets it, from the first node on
+abbrev pub Lies : Opening → Player → List Node → Type 0
+Lies o w nodes = Rep (2 * purse o.sheet) o.m nodes 0 (seat o.sheet o.m w)
+
 -- the tree and the sights are in memory
 pub record Standing (o : Opening) (nodes : List Node) (house guest : List Sight) : Type 0 where
   pub rep : Rep (2 * purse o.sheet) o.m nodes 0 (tree o.sheet o.m)
@@ -37,6 +43,11 @@ pub record Standing (o : Opening) (nodes : List Node) (house guest : List Sight)
 abbrev pub Keeping : List Node → List Row → ℕ → ℕ → ℕ → Kept → Type 0
 Keeping nodes rows m words space k =
     (table : ℕ) (t : Tree) (c choices : ℕ → ℕ) → Whole table t c choices nodes rows m words space → k ≡ record { worst = worst m (plan_of rows c) choices words t; hands = m ^ words }
+
+-- the rows are a plan of that player that was read
+pub record SomePlan (o : Opening) (w : Player) (rows : List Row) : Type 0 where
+  pub bytes : List ℕ
+  pub read : plan_in o w bytes ≡ Ok rows
 
 -- it is what a plan of the house keeps that was read
 pub record SomeKept (o : Opening) (k : Kept) : Type 0 where

@@ -2,39 +2,35 @@
 
 #![tactic(auto)]
 
-ghost use Rattle.std.specs.Prelude.{◌≡◌, ℕ, ◌*◌, ◌≤◌, List, [], ◌++◌, length, take, drop, IfOk, Some, Ok, vec_len, string_bytes, MatchResult, OnOk};
-ghost use Rattle.answers.specs.Text.{number_of, place_of, refused, sized, kept as kept_as, shown as shown_as};
-ghost use Rattle.answers.specs.Files.{opened_in, past_m, plan_in, sized_rival, with_opening, reckoned_in, reckoned};
+ghost use Rattle.std.specs.Prelude.{◌≡◌, ℕ, ◌*◌, ◌^◌, ◌<◌, List, [], ◌++◌, length, take, drop, IfOk, Some, Ok, Err, string_bytes, MatchResult, OnOk};
+ghost use Rattle.answers.specs.Text.{number_of, place_of, refused, sized, kept as kept_as, shown as shown_as, line};
+ghost use Rattle.answers.specs.Files.{opened_in, plan_length, plan_in, kept_by, sized_rival, with_opening, reckoned_in, reckoned};
 ghost use Rattle.answers.specs.Proposed.{opened_for, Proposed, Unproposed};
 ghost use Rattle.answers.specs.Ready.{ReadyIn, Begun};
-ghost use Rattle.plans.specs.declared.Row.{Row as OneRow};
-ghost use Rattle.answers.specs.Steps.{Roomy, Standing, Keeping, SomeKept};
+ghost use Rattle.answers.specs.Steps.{Lies, SomePlan, SomeKept, Lines};
+ghost use Rattle.answers.specs.Faults.{fault_of, Answered, Printed};
+ghost use Rattle.answers.specs.declared.Refusal.TheVariants.{OfSheet, OfMemory, OfPlan, OfHand};
+ghost use Rattle.worst.specs.declared.Refusal.TheVariants.{OfTree};
+ghost use Rattle.answers.specs.declared.Fault.TheVariants.{Refused, Memory};
+ghost use Rattle.answers.specs.Promised.{ReckonsIn, Reckons};
+ghost use Rattle.answers.specs.Hands.{hand_line, play_opening, play_text_in, play_text, PlaysIn, Plays};
 ghost use Rattle.rules.specs.declared.Player.TheVariants.{House, Guest};
 ghost use Rattle.rules.specs.Play.{purse};
 ghost use Rattle.rules.specs.Counts.{word_count};
-ghost use Rattle.rules.specs.Sights.{tree};
 ghost use Rattle.tree.specs.Compact.{game_as};
 ghost use Rattle.tree.specs.Seen.{sights_of};
-ghost use Rattle.tree.specs.Rep.{Rep};
+ghost use Rattle.plans.specs.declared.Row.{Row as OneRow};
+ghost use Rattle.plans.specs.Refusals.{Turned};
 ghost use Rattle.plans.specs.Bases.{size_of};
-ghost use Rattle.worst.specs.Whole.{SomeWhole};
-ghost use Rattle.cards.specs.Game.{Tree};
-ghost use Rattle.hands.specs.Laid.{SomeLaid, Laid};
-ghost use Rattle.hands.specs.Match.{outcomes_of};
-ghost use Rattle.plans.specs.Plan.{plan_of};
-ghost use Rattle.answers.specs.Promised.{ReckonsIn, Reckons};
-ghost use Rattle.answers.specs.Hands.{hand_line, play_opening, play_text_in, play_text, PlaysIn, Plays};
-ghost use Rattle.answers.specs.Text.{line};
-ghost use Rattle.answers.specs.Steps.{Lines};
 
 use bracket::Verdict;
-use plans::{Fault, Row};
+use plans::Row;
 use rules::{Ends, Player, Sheet};
 use search::Progress;
 use std::alloc::{AllocError, Global};
 use std::fmt;
 use std::fmt::Write;
-use tree::{History, Line, Node, Place, Sight, Sizes};
+use tree::{Node, Sight, Sizes};
 use worst::Entry;
 
 // The places that `reckon` and `play` have memory for.
@@ -75,13 +71,114 @@ impl Refusal {
     }
 }
 
+impl From<rules::Refusal> for Refusal {
+    ghost from_gives = { λ e r. r ≡ OfSheet e };
+
+    fn from(e: rules::Refusal) -> Refusal {
+        Refusal::OfSheet(e)
+    }
+}
+
+impl From<worst::Refusal> for Refusal {
+    ghost from_gives = { λ e r. r ≡ OfMemory e };
+
+    fn from(e: worst::Refusal) -> Refusal {
+        Refusal::OfMemory(e)
+    }
+}
+
+impl From<plans::Refusal> for Refusal {
+    ghost from_gives = { λ e r. r ≡ OfPlan e };
+
+    fn from(e: plans::Refusal) -> Refusal {
+        Refusal::OfPlan(e)
+    }
+}
+
+impl From<hands::Refusal> for Refusal {
+    ghost from_gives = { λ e r. r ≡ OfHand e };
+
+    fn from(e: hands::Refusal) -> Refusal {
+        Refusal::OfHand(e)
+    }
+}
+
 impl fmt::Display for Refusal {
     ghost output = { λ e. Some (refused e) };
 
     fn fmt<W: fmt::Write>(&self, f: &mut fmt::Formatter<W>) -> fmt::Result {
-        let n = self.number();
-        let p = self.place();
-        write!(f, "refused {n} at {p}")
+        write!(f, "refused {} at {}", self.number(), self.place())
+    }
+}
+
+// Why there is no answer: the file is refused, or memory is wanting.
+// Kept: plans has the same of its own refusals; one type for both would stand there, where no conversion of this crate's can.
+#[derive(Clone, Copy)]
+pub enum Fault {
+    Refused(Refusal),
+    Memory,
+}
+
+impl From<Refusal> for Fault {
+    ghost from_gives = { λ e f. f ≡ Refused e };
+
+    fn from(e: Refusal) -> Fault {
+        Fault::Refused(e)
+    }
+}
+
+impl From<rules::Refusal> for Fault {
+    ghost from_gives = { λ e f. f ≡ Refused (OfSheet e) };
+
+    fn from(e: rules::Refusal) -> Fault {
+        Fault::Refused(Refusal::OfSheet(e))
+    }
+}
+
+impl From<tree::Refusal> for Fault {
+    ghost from_gives = { λ e f. f ≡ Refused (OfMemory (OfTree e)) };
+
+    fn from(e: tree::Refusal) -> Fault {
+        Fault::Refused(Refusal::OfMemory(worst::Refusal::OfTree(e)))
+    }
+}
+
+impl From<plans::Refusal> for Fault {
+    ghost from_gives = { λ e f. f ≡ Refused (OfPlan e) };
+
+    fn from(e: plans::Refusal) -> Fault {
+        Fault::Refused(Refusal::OfPlan(e))
+    }
+}
+
+impl From<plans::Fault> for Fault {
+    ghost from_gives = { λ e f. f ≡ fault_of e };
+
+    fn from(e: plans::Fault) -> Fault {
+        match e {
+            plans::Fault::Refused(e) => Fault::Refused(Refusal::OfPlan(e)),
+            plans::Fault::Memory => Fault::Memory,
+        }
+    }
+}
+
+impl From<AllocError> for Fault {
+    ghost from_gives = { λ _ f. f ≡ Memory };
+
+    fn from(_e: AllocError) -> Fault {
+        Fault::Memory
+    }
+}
+
+impl Fault {
+    // The refusal; where memory is wanting there is none.
+    fn refusal(self) -> Result<Refusal, AllocError>
+        ensures { MatchResult result (λ e. self ≡ Refused e) (λ _. self ≡ Memory) }
+    {
+        match self {
+            Fault::Refused(e) => Ok(e),
+            Fault::Memory => Err(AllocError),
+        }
     }
 }
 
@@ -95,13 +192,14 @@ pub enum Stage {
 }
 
 // Is called when the building of the tree and the reckoning of the house's plan begin and end, for example to measure time.
+// Kept: a closure in its place would need a `requires` that it may be called, in each function that passes it on.
 pub trait Stages {
     fn stage(&mut self, stage: Stage);
 }
 
 // Does nothing.
 #[derive(Clone, Copy)]
-struct Silent {}
+struct Silent;
 
 impl Stages for Silent {
     fn stage(&mut self, _stage: Stage) {}
@@ -126,9 +224,7 @@ impl fmt::Display for Kept {
     ghost output = { λ k. Some (kept_as k) };
 
     fn fmt<W: fmt::Write>(&self, f: &mut fmt::Formatter<W>) -> fmt::Result {
-        let v = self.worst;
-        let h = self.hands;
-        write!(f, "worst {v} of {h}")
+        write!(f, "worst {} of {}", self.worst, self.hands)
     }
 }
 
@@ -150,12 +246,17 @@ impl fmt::Display for Shown {
     ghost output = { λ z. Some (sized z.0) };
 
     fn fmt<W: fmt::Write>(&self, f: &mut fmt::Formatter<W>) -> fmt::Result {
-        let n = self.0.places;
-        let h = self.0.house.sights;
-        let g = self.0.guest.sights;
-        let w = self.0.house.words;
-        let t = self.0.table;
-        write!(f, "places {n} sights {h} and {g} words {w} table {t}")
+        let Sizes {
+            places,
+            house,
+            guest,
+            table,
+        } = self.0;
+        write!(
+            f,
+            "places {places} sights {} and {} words {} table {table}",
+            house.sights, guest.sights, house.words
+        )
     }
 }
 
@@ -165,220 +266,272 @@ impl fmt::Display for Answer {
     fn fmt<W: fmt::Write>(&self, f: &mut fmt::Formatter<W>) -> fmt::Result {
         match self {
             Answer::Refused(e) => write!(f, "{e}\n"),
-            Answer::One(z, k) => {
-                let z = Shown(*z);
-                write!(f, "{z}\n{k}\n")
-            }
-            Answer::Both(z, k, r, v) => {
-                let z = Shown(*z);
-                write!(f, "{z}\n{k}\n{r}\n{v}\n")
-            }
+            Answer::One(z, k) => write!(f, "{}\n{k}\n", Shown(*z)),
+            Answer::Both(z, k, r, v) => write!(f, "{}\n{k}\n{r}\n{v}\n", Shown(*z)),
         }
     }
 }
 
-// The first so many bytes, or all where there are fewer.
-fn front(input: &[u8], n: usize) -> &[u8]
-    ensures { result.now ≡ take n input.now }
+// The first so many bytes, or all where there are fewer, and what follows them.
+fn split(input: &[u8], n: usize) -> (&[u8], &[u8])
+    ensures front { result.0.now ≡ take n input.now }
+    ensures after { result.1.now ≡ drop n input.now }
 {
-    if input.len() < n { input } else { &input[0..n] }
+    input.split_at(n.min(input.len()))
 }
 
-// What follows the first so many bytes.
-fn past(input: &[u8], n: usize) -> &[u8]
-    ensures { result.now ≡ drop n input.now }
-{
-    if input.len() < n {
-        &input[input.len()..]
-    } else {
-        &input[n..]
-    }
+// How a file begins, and that its tree can be built and reckoned.
+#[derive(Clone, Copy)]
+struct Admitted {
+    opening: Opening,
+    ghost begun: { Begun opening },
 }
 
 // Reads the beginning of a file: the rule sheet, whose tree has to have at most `room` places, and m.
-fn open_file(room: u32, input: &[u8]) -> Result<Opening, Refusal>
-    ensures value { result ≡ opened_in room input.now }
-    ensures ready { IfOk result (ReadyIn room) }
-    ensures begun { IfOk result Begun }
+fn open_file(room: u32, input: &[u8]) -> Result<Admitted, Refusal>
+    ensures value { MatchResult result (λ a. opened_in room input.now ≡ Ok a.opening) (λ e. opened_in room input.now ≡ Err e) }
+    ensures ready { IfOk result (λ a. ReadyIn room a.opening) }
 {
-    let sheet = match rules::read(front(input, 9)) {
-        Ok(sheet) => sheet,
-        Err(e) => return Err(Refusal::OfSheet(e)),
-    };
+    let (front, rest) = split(input, 9);
+    let sheet = rules::read(front)?;
     let room = room as usize;
-    let sizes = match worst::admit(tree::measure(sheet), room, room, room, room) {
-        Ok(sizes) => sizes,
-        Err(e) => return Err(Refusal::OfMemory(e)),
-    };
-    let Some(number) = plans::read_base(past(input, 9)) else {
+    let sizes = worst::admit(tree::measure(sheet), room, room, room, room)?;
+    let Some(number) = plans::read_base(rest) else {
         return Err(Refusal::OfPlan(plans::Refusal::Base));
     };
-    let m = match plans::check_base(sheet, number) {
-        Ok(m) => m,
-        Err(e) => return Err(Refusal::OfPlan(e)),
-    };
-    match plans::check_size(sizes.table, m, sizes.house.words) {
-        Ok(_) => Ok(Opening { sheet, sizes, m }),
-        Err(e) => Err(Refusal::OfPlan(e)),
-    }
-}
-
-// Writes the tree and its sights into memory of their length.
-fn build_tree(o: Opening, nodes: &mut [Node], house: &mut [Sight], guest: &mut [Sight])
-    requires ready { Begun o }
-    requires rooms { Roomy o.sizes nodes.old house.old guest.old }
-    ensures { Standing o nodes.new house.new guest.new }
-{
-    let _ = tree::build(o.sheet, nodes, house, guest);
-}
-
-// What the plan in the rows keeps over the tree in the nodes.
-fn keep(nodes: &[Node], rows: &[Row], m: u32, words: u32, work: &mut [Entry]) -> Kept
-    requires { SomeWhole nodes.now rows.now m words (length work.old) }
-    ensures { Keeping nodes.now rows.now m words (length work.old) result }
-{
-    let reckoned = worst::worst(nodes, rows, m, words, work);
-    Kept {
-        worst: reckoned.worst,
-        hands: (m as u64).pow(words),
-    }
-}
-
-// The answer where the file goes on with a plan for the turned tree: the tree in the nodes is turned, and reckoned once more.
-fn rival(
-    heap: Global,
-    o: Opening,
-    kept: Kept,
-    plan: &[u8],
-    nodes: &mut [Node],
-    theirs: &[Sight],
-    work: &mut [Entry],
-) -> Result<Answer, AllocError>
-    requires ready { Begun o }
-    requires tree { Rep (2 * purse o.sheet) o.m nodes.old 0 (tree o.sheet o.m) }
-    requires rooms { (length nodes.old ≡ o.sizes.places) × (length work.old ≡ o.sizes.places) }
-    requires sights { theirs.now ≡ sights_of Guest (game_as o.sheet) }
-    requires kept { SomeKept o kept }
-    ensures { IfOk result (λ a. a ≡ sized_rival o kept plan.now (size_of o.sizes.table o.m (word_count o.sheet Guest))) }
-{
-    if let Err(e) = plans::check_size(o.sizes.table, o.m, o.sizes.guest.words) {
-        return Ok(Answer::Refused(Refusal::OfPlan(e)));
-    }
-    let rows = match plans::read_plan(heap, o.sheet.raises, theirs, o.m, plan) {
-        Ok(rows) => rows,
-        Err(Fault::Refused(e)) => return Ok(Answer::Refused(Refusal::OfPlan(e))),
-        Err(Fault::Memory) => return Err(AllocError),
-    };
-    bracket::turn(nodes);
-    let other = keep(nodes, &rows, o.m, o.sizes.guest.words, work);
-    let verdict = bracket::bracket(
-        kept.worst,
-        other.hands,
-        other.worst,
-        kept.hands,
-        o.sizes.table as u64,
-    );
-    Ok(Answer::Both(o.sizes, kept, other, verdict))
-}
-
-// The answer to a file that begins so, from the bytes after m on, with the tree and the sights in memory.
-fn answer_plans<S: Stages>(
-    heap: Global,
-    stages: &mut S,
-    o: Opening,
-    rest: &[u8],
-    nodes: &mut [Node],
-    ours: &[Sight],
-    theirs: &[Sight],
-    work: &mut [Entry],
-) -> Result<Answer, AllocError>
-    requires ready { Begun o }
-    requires tree { Rep (2 * purse o.sheet) o.m nodes.old 0 (tree o.sheet o.m) }
-    requires rooms { (length nodes.old ≡ o.sizes.places) × (length work.old ≡ o.sizes.places) }
-    requires ours { ours.now ≡ sights_of House (game_as o.sheet) }
-    requires theirs { theirs.now ≡ sights_of Guest (game_as o.sheet) }
-    ensures { IfOk result (λ a. a ≡ with_opening rest.now (Ok o)) }
-{
-    let n = plans::plan_bytes(o.sheet.raises, ours);
-    let rows = match plans::read_plan(heap, o.sheet.raises, ours, o.m, front(rest, n)) {
-        Ok(rows) => rows,
-        Err(Fault::Refused(e)) => return Ok(Answer::Refused(Refusal::OfPlan(e))),
-        Err(Fault::Memory) => return Err(AllocError),
-    };
-    stages.stage(Stage::Reckoning);
-    let kept = keep(nodes, &rows, o.m, o.sizes.house.words, work);
-    stages.stage(Stage::Reckoned);
-    let more = past(rest, n);
-    if more.is_empty() {
-        return Ok(Answer::One(o.sizes, kept));
-    }
-    rival(heap, o, kept, more, nodes, theirs, work)
-}
-
-// The answer to a file that begins so, with memory for its tree.
-fn answer_file<S: Stages>(
-    heap: Global,
-    stages: &mut S,
-    o: Opening,
-    input: &[u8],
-    nodes: &mut [Node],
-    house: &mut [Sight],
-    guest: &mut [Sight],
-    work: &mut [Entry],
-) -> Result<Answer, AllocError>
-    requires ready { Begun o }
-    requires rooms { Roomy o.sizes nodes.old house.old guest.old }
-    requires work { length work.old ≡ o.sizes.places }
-    ensures { IfOk result (λ a. a ≡ with_opening (past_m input.now) (Ok o)) }
-{
-    stages.stage(Stage::Building);
-    build_tree(o, nodes, house, guest);
-    stages.stage(Stage::Built);
-    let ours = &house[0..o.sizes.house.sights as usize];
-    let theirs = &guest[0..o.sizes.guest.sights as usize];
-    answer_plans(heap, stages, o, past(input, 13), nodes, ours, theirs, work)
-}
-
-// The memory that is lent to the library: for the tree, for the sights of each player, and the work row.
-#[derive(Drop)]
-struct Memory {
-    nodes: Vec<Node>,
-    house: Vec<Sight>,
-    guest: Vec<Sight>,
-    work: Vec<Entry>,
-}
-
-// Memory for a tree of this size.
-fn make_memory(heap: Global, z: Sizes) -> Result<Memory, AllocError>
-    ensures { IfOk result (λ m. Roomy z m.nodes.items m.house.items m.guest.items × (vec_len m.work ≡ z.places)) }
-{
-    let line = Line { checks: 0, bets: 0 };
-    let sight = Sight {
-        own: 0,
-        history: History {
-            first: line,
-            public: None,
-            second: line,
-        },
-    };
-    let node = Node {
-        place: Place::Over(Ends { house: 0, guest: 0 }),
-        share: 0,
-        size: 0,
-    };
-    let nodes = vec![in heap; node; z.places as usize]?;
-    let house = vec![in heap; sight; z.house.sights as usize]?;
-    let guest = vec![in heap; sight; z.guest.sights as usize]?;
-    let work = vec![in heap; Entry::blank(); z.places as usize]?;
-    Ok(Memory {
-        nodes,
-        house,
-        guest,
-        work,
+    let m = plans::check_base(sheet, number)?;
+    plans::check_size(sizes.table, m, sizes.house.words)?;
+    Ok(Admitted {
+        opening: Opening { sheet, sizes, m },
     })
 }
 
-// The answer to a file, with memory for `room` places.
+// Reads the beginning of a file for which a player is to have a plan.
+fn open_chair(room: u32, chair: Player, input: &[u8]) -> Result<Admitted, Refusal>
+    ensures { MatchResult result (λ a. opened_for room chair input.now ≡ Ok a.opening) (λ e. opened_for room chair input.now ≡ Err e) }
+{
+    let admitted = open_file(room, input)?;
+    let o = admitted.opening;
+    match chair {
+        Player::House => Ok(admitted),
+        Player::Guest => {
+            plans::check_size(o.sizes.table, o.m, o.sizes.guest.words)?;
+            Ok(admitted)
+        }
+    }
+}
+
+// A tree in memory as a player meets it, with numbers small enough to reckon.
+#[derive(Clone, Copy)]
+struct Seated<'a> {
+    admitted: Admitted,
+    who: Player,
+    nodes: &'a [Node],
+    ghost stands: { ∥ Lies admitted.opening who nodes.now ∥₁ },
+    ghost places: { length nodes.now ≡ admitted.opening.sizes.places },
+    ghost small: { let o = admitted.opening in 2 * purse o.sheet * o.m ^ word_count o.sheet who < 2 ^ 62 },
+}
+
+impl Seated<'_> {
+    // How many words of chance a hand of the player has.
+    fn words(&self) -> u32
+        ensures { result ≡ word_count self.now.admitted.opening.sheet self.now.who }
+    {
+        let sizes = self.admitted.opening.sizes;
+        match self.who {
+            Player::House => sizes.house.words,
+            Player::Guest => sizes.guest.words,
+        }
+    }
+
+    // What a plan of the player keeps.
+    fn keep(&self, rows: &[Row], work: &mut [Entry]) -> Kept
+        requires plan { SomePlan self.now.admitted.opening self.now.who rows.now }
+        requires room { length work.old ≡ self.now.admitted.opening.sizes.places }
+        ensures { result ≡ kept_by self.now.admitted.opening self.now.who rows.now }
+    {
+        let m = self.admitted.opening.m;
+        let words = self.words();
+        let reckoned = worst::worst(self.nodes, rows, m, words, work);
+        Kept {
+            worst: reckoned.worst,
+            hands: (m as u64).pow(words),
+        }
+    }
+}
+
+// The tree of a file's rule sheet in memory of its own size, and the sights of each player.
+#[derive(Drop)]
+struct Grown {
+    admitted: Admitted,
+    nodes: Vec<Node>,
+    house: Vec<Sight>,
+    guest: Vec<Sight>,
+    ghost stands: { ∥ Lies admitted.opening House nodes.items ∥₁ },
+    ghost places: { length nodes.items ≡ admitted.opening.sizes.places },
+    ghost ours: { house.items ≡ sights_of House (game_as admitted.opening.sheet) },
+    ghost theirs: { guest.items ≡ sights_of Guest (game_as admitted.opening.sheet) },
+}
+
+impl Grown {
+    // Makes the memory, and writes the tree and its sights into it; `stages` is called before and after the writing.
+    fn new<S: Stages>(heap: Global, stages: &mut S, admitted: Admitted) -> Result<Grown, AllocError>
+        ensures { IfOk result (λ t. t.admitted ≡ admitted) }
+    {
+        let o = admitted.opening;
+        let mut nodes = vec![in heap; Node::default(); o.sizes.places as usize]?;
+        let mut house = vec![in heap; Sight::default(); o.sizes.house.sights as usize]?;
+        let mut guest = vec![in heap; Sight::default(); o.sizes.guest.sights as usize]?;
+        stages.stage(Stage::Building);
+        let _ = tree::build(o.sheet, &mut nodes, &mut house, &mut guest);
+        stages.stage(Stage::Built);
+        Ok(Grown {
+            admitted,
+            nodes,
+            house,
+            guest,
+        })
+    }
+
+    // The sights of a player.
+    fn sights(&self, who: Player) -> &[Sight]
+        ensures { result.now ≡ sights_of who (game_as self.now.admitted.opening.sheet) }
+    {
+        match who {
+            Player::House => &self.house,
+            Player::Guest => &self.guest,
+        }
+    }
+
+    // The bytes of the plan of the house at the front, and what follows them.
+    fn cut<'a>(&self, rest: &'a [u8]) -> (&'a [u8], &'a [u8])
+        ensures front { result.0.now ≡ take (plan_length self.now.admitted.opening House) rest.now }
+        ensures after { result.1.now ≡ drop (plan_length self.now.admitted.opening House) rest.now }
+    {
+        let n = plans::plan_bytes(
+            self.admitted.opening.sheet.raises,
+            self.sights(Player::House),
+        );
+        split(rest, n)
+    }
+
+    // Reads a plan of a player.
+    fn read_plan(&self, heap: Global, who: Player, bytes: &[u8]) -> Result<Vec<Row>, plans::Fault>
+        ensures { let read = plan_in self.now.admitted.opening who bytes.now in MatchResult result (λ v. read ≡ Ok v.items) (Turned read) }
+    {
+        let o = self.admitted.opening;
+        plans::read_plan(heap, o.sheet.raises, self.sights(who), o.m, bytes)
+    }
+
+    // The answer where the file goes on with a plan for the turned tree.
+    fn rival(
+        self,
+        heap: Global,
+        kept: Kept,
+        plan: &[u8],
+        work: &mut [Entry],
+    ) -> Result<Answer, Fault>
+        requires room { length work.old ≡ self.admitted.opening.sizes.places }
+        requires kept { SomeKept self.admitted.opening kept }
+        ensures { let o = self.admitted.opening in Answered (sized_rival o kept plan.now (size_of o.sizes.table o.m (word_count o.sheet Guest))) result }
+    {
+        let o = self.admitted.opening;
+        plans::check_size(o.sizes.table, o.m, o.sizes.guest.words)?;
+        let rows = self.read_plan(heap, Player::Guest, plan)?;
+        let mut nodes = self.nodes;
+        bracket::turn(&mut nodes);
+        let turned = Seated {
+            admitted: self.admitted,
+            who: Player::Guest,
+            nodes: &nodes,
+        };
+        let other = turned.keep(&rows, work);
+        let verdict = bracket::bracket(
+            kept.worst,
+            other.hands,
+            other.worst,
+            kept.hands,
+            o.sizes.table as u64,
+        );
+        Ok(Answer::Both(o.sizes, kept, other, verdict))
+    }
+
+    // The answer to a file, from its bytes after m on.
+    fn answer<S: Stages>(self, heap: Global, stages: &mut S, rest: &[u8]) -> Result<Answer, Fault>
+        ensures { Answered (with_opening rest.now (Ok self.admitted.opening)) result }
+    {
+        let o = self.admitted.opening;
+        let (plan, more) = self.cut(rest);
+        let rows = self.read_plan(heap, Player::House, plan)?;
+        let mut work = vec![in heap; Entry::blank(); o.sizes.places as usize]?;
+        stages.stage(Stage::Reckoning);
+        let seated = Seated {
+            admitted: self.admitted,
+            who: Player::House,
+            nodes: &self.nodes,
+        };
+        let kept = seated.keep(&rows, &mut work);
+        stages.stage(Stage::Reckoned);
+        if more.is_empty() {
+            return Ok(Answer::One(o.sizes, kept));
+        }
+        self.rival(heap, kept, more, &mut work)
+    }
+
+    // The lines of the hands of a file, from its bytes after m on.
+    fn play(&self, heap: Global, rest: &[u8]) -> Result<String, Fault>
+        ensures { Printed (play_opening rest.now (Ok self.now.admitted.opening)) result }
+    {
+        let (plan, more) = self.cut(rest);
+        let rows = self.read_plan(heap, Player::House, plan)?;
+        let game = hands::Game {
+            nodes: &self.nodes,
+            rows: &rows,
+            m: self.admitted.opening.m,
+        };
+        let mut out = String::new(heap);
+        write_hands(&game, more, &mut out)?;
+        Ok(out)
+    }
+
+    // The bytes of a plan for a player, after at most `rounds` rounds.
+    fn propose<P: Progress>(
+        &self,
+        heap: Global,
+        progress: &P,
+        chair: Player,
+        rounds: u32,
+    ) -> Result<Vec<u8>, AllocError>
+        ensures { IfOk result (λ v. (rows : List OneRow) × (plan_in self.now.admitted.opening chair v.items ≡ Ok rows)) }
+    {
+        let o = self.admitted.opening;
+        let game = search::Game {
+            nodes: &self.nodes,
+            own: self.sights(chair),
+            others: self.sights(chair.other()),
+            raises: o.sheet.raises,
+            chair,
+        };
+        search::plan(heap, progress, game, o.m, rounds)
+    }
+}
+
+// The answer to a file that is not refused, with memory for `room` places.
+fn answer_file<S: Stages>(
+    heap: Global,
+    stages: &mut S,
+    room: u32,
+    input: &[u8],
+) -> Result<Answer, Fault>
+    ensures { Answered (reckoned_in room input.now) result }
+{
+    let admitted = open_file(room, input)?;
+    let grown = Grown::new(heap, stages, admitted)?;
+    let (_, rest) = split(input, 13);
+    grown.answer(heap, stages, rest)
+}
+
+// The answer to a file, with memory for `room` places: a refusal is one too.
 fn judge<S: Stages>(
     heap: Global,
     stages: &mut S,
@@ -387,21 +540,10 @@ fn judge<S: Stages>(
 ) -> Result<Answer, AllocError>
     ensures { IfOk result (λ a. a ≡ reckoned_in room input.now) }
 {
-    let o = match open_file(room, input) {
-        Ok(o) => o,
-        Err(e) => return Ok(Answer::Refused(e)),
-    };
-    let mut m = make_memory(heap, o.sizes)?;
-    answer_file(
-        heap,
-        stages,
-        o,
-        input,
-        &mut m.nodes,
-        &mut m.house,
-        &mut m.guest,
-        &mut m.work,
-    )
+    match answer_file(heap, stages, room, input) {
+        Ok(answer) => Ok(answer),
+        Err(fault) => Ok(Answer::Refused(fault.refusal()?)),
+    }
 }
 
 // What the reckoning program would print for a file, with memory for `room` places; `stages` is called at each stage.
@@ -423,8 +565,7 @@ pub fn reckon_in(heap: Global, room: u32, input: &[u8]) -> Result<String, AllocE
     ensures text { IfOk result (λ s. string_bytes s ≡ shown_as (reckoned_in room input.now)) }
     ensures promised { ReckonsIn room input.now }
 {
-    let mut silent = Silent {};
-    reckon_in_stages(heap, &mut silent, room, input)
+    reckon_in_stages(heap, &mut Silent, room, input)
 }
 
 // What the reckoning program prints for a file.
@@ -444,15 +585,8 @@ impl fmt::Display for HandLine {
 
     fn fmt<W: fmt::Write>(&self, f: &mut fmt::Formatter<W>) -> fmt::Result {
         match self.0 {
-            Ok(ends) => {
-                let h = ends.house;
-                let g = ends.guest;
-                write!(f, "house {h} guest {g}")
-            }
-            Err(e) => {
-                let e = Refusal::OfHand(e);
-                write!(f, "{e}")
-            }
+            Ok(ends) => write!(f, "house {} guest {}", ends.house, ends.guest),
+            Err(e) => write!(f, "{}", Refusal::from(e)),
         }
     }
 }
@@ -461,84 +595,29 @@ impl fmt::Display for HandLine {
 fn add_line(res: Result<Ends, hands::Refusal>, out: &mut String) -> Result<(), AllocError>
     ensures { OnOk result (string_bytes out.new ≡ string_bytes out.old ++ line (hand_line res) []) }
 {
-    let text = HandLine(res);
-    write!(out, "{text}\n")
+    write!(out, "{}\n", HandLine(res))
 }
 
 // Plays the hands of the bytes one after the other, and adds a line for each.
-fn write_hands(
-    nodes: &[Node],
-    rows: &[Row],
-    m: u32,
-    input: &[u8],
-    out: &mut String,
-) -> Result<(), AllocError>
-    requires { SomeLaid m rows.now nodes.now }
-    ensures { OnOk result (Lines nodes.now rows.now m (string_bytes out.old) input.now (string_bytes out.new) []) }
+fn write_hands(game: &hands::Game<'_>, input: &[u8], out: &mut String) -> Result<(), AllocError>
+    ensures { OnOk result (Lines game.now.nodes.now game.now.rows.now game.now.m (string_bytes out.old) input.now (string_bytes out.new) []) }
 {
     let mut rest = input;
-    while let Some(hand) = hands::next_hand(nodes, rows, m, rest) {
+    while let Some(hand) = game.next_hand(rest) {
         add_line(hand.result, out)?;
         rest = hand.rest;
     }
     Ok(())
 }
 
-// The line of a refusal.
-fn refusal_line(heap: Global, e: Refusal) -> Result<String, AllocError>
-    ensures { IfOk result (λ s. string_bytes s ≡ line (refused e) []) }
+// The lines of the hands of a file that is not refused, with memory for `room` places.
+fn play_file(heap: Global, room: u32, input: &[u8]) -> Result<String, Fault>
+    ensures { Printed (play_text_in room input.now) result }
 {
-    format!(in heap; "{e}\n")
-}
-
-// The lines of the hands of a file that begins so, from the bytes after m on, with the tree and the sights of the house in memory.
-fn play_plan(
-    heap: Global,
-    o: Opening,
-    rest: &[u8],
-    nodes: &[Node],
-    ours: &[Sight],
-) -> Result<String, AllocError>
-    requires ready { Begun o }
-    requires tree { Rep (2 * purse o.sheet) o.m nodes.now 0 (tree o.sheet o.m) }
-    requires room { length nodes.now ≡ o.sizes.places }
-    requires ours { ours.now ≡ sights_of House (game_as o.sheet) }
-    ensures { IfOk result (λ s. string_bytes s ≡ play_opening rest.now (Ok o)) }
-{
-    let n = plans::plan_bytes(o.sheet.raises, ours);
-    let rows = match plans::read_plan(heap, o.sheet.raises, ours, o.m, front(rest, n)) {
-        Ok(rows) => rows,
-        Err(Fault::Refused(e)) => return refusal_line(heap, Refusal::OfPlan(e)),
-        Err(Fault::Memory) => return Err(AllocError),
-    };
-    let mut out = String::new(heap);
-    match write_hands(nodes, &rows, o.m, past(rest, n), &mut out) {
-        Ok(()) => Ok(out),
-        Err(e) => Err(e),
-    }
-}
-
-// The lines of the hands of a file that begins so, with memory for its tree.
-fn play_file(
-    heap: Global,
-    o: Opening,
-    input: &[u8],
-    nodes: &mut [Node],
-    house: &mut [Sight],
-    guest: &mut [Sight],
-) -> Result<String, AllocError>
-    requires ready { Begun o }
-    requires rooms { Roomy o.sizes nodes.old house.old guest.old }
-    ensures { IfOk result (λ s. string_bytes s ≡ play_opening (past_m input.now) (Ok o)) }
-{
-    build_tree(o, nodes, house, guest);
-    play_plan(
-        heap,
-        o,
-        past(input, 13),
-        nodes,
-        &house[0..o.sizes.house.sights as usize],
-    )
+    let admitted = open_file(room, input)?;
+    let grown = Grown::new(heap, &mut Silent, admitted)?;
+    let (_, rest) = split(input, 13);
+    grown.play(heap, rest)
 }
 
 // What the playing program would print for a file, with memory for `room` places.
@@ -546,12 +625,13 @@ pub fn play_in(heap: Global, room: u32, input: &[u8]) -> Result<String, AllocErr
     ensures text { IfOk result (λ s. string_bytes s ≡ play_text_in room input.now) }
     ensures promised { PlaysIn room input.now }
 {
-    let o = match open_file(room, input) {
-        Ok(o) => o,
-        Err(e) => return refusal_line(heap, e),
-    };
-    let mut m = make_memory(heap, o.sizes)?;
-    play_file(heap, o, input, &mut m.nodes, &mut m.house, &mut m.guest)
+    match play_file(heap, room, input) {
+        Ok(text) => Ok(text),
+        Err(fault) => {
+            let e = fault.refusal()?;
+            format!(in heap; "{e}\n")
+        }
+    }
 }
 
 // What the playing program prints for a file.
@@ -562,93 +642,6 @@ pub fn play(heap: Global, input: &[u8]) -> Result<String, AllocError>
     play_in(heap, ROOM, input)
 }
 
-// Why no plan is proposed: the file is refused, or memory is wanting.
-#[derive(Clone, Copy)]
-pub enum NoPlan {
-    Refused(Refusal),
-    Memory,
-}
-
-// Reads the beginning of a file for which a player is to have a plan.
-fn open_chair(room: u32, chair: Player, input: &[u8]) -> Result<Opening, Refusal>
-    ensures value { result ≡ opened_for room chair input.now }
-    ensures ready { IfOk result Begun }
-{
-    let o = match open_file(room, input) {
-        Ok(o) => o,
-        Err(e) => return Err(e),
-    };
-    match chair {
-        Player::House => Ok(o),
-        Player::Guest => match plans::check_size(o.sizes.table, o.m, o.sizes.guest.words) {
-            Ok(_) => Ok(o),
-            Err(e) => Err(Refusal::OfPlan(e)),
-        },
-    }
-}
-
-// The bytes of a plan for a player, with the tree and the sights in memory.
-fn plan_for<'x, P: Progress>(
-    heap: Global,
-    progress: &P,
-    o: Opening,
-    chair: Player,
-    rounds: u32,
-    nodes: &'x [Node],
-    ours: &'x [Sight],
-    theirs: &'x [Sight],
-) -> Result<Vec<u8>, AllocError>
-    requires ours { ours.now ≡ sights_of House (game_as o.sheet) }
-    requires theirs { theirs.now ≡ sights_of Guest (game_as o.sheet) }
-    ensures { IfOk result (λ v. (rows : List OneRow) × (plan_in o chair v.items ≡ Ok rows)) }
-{
-    match chair {
-        Player::House => search::plan(
-            heap,
-            progress,
-            nodes,
-            ours,
-            theirs,
-            o.sheet.raises,
-            chair,
-            o.m,
-            rounds,
-        ),
-        Player::Guest => search::plan(
-            heap,
-            progress,
-            nodes,
-            theirs,
-            ours,
-            o.sheet.raises,
-            chair,
-            o.m,
-            rounds,
-        ),
-    }
-}
-
-// The bytes of a plan for a player, with memory for the tree.
-fn plan_file<P: Progress>(
-    heap: Global,
-    progress: &P,
-    o: Opening,
-    chair: Player,
-    rounds: u32,
-    nodes: &mut [Node],
-    house: &mut [Sight],
-    guest: &mut [Sight],
-) -> Result<Vec<u8>, AllocError>
-    requires ready { Begun o }
-    requires rooms { Roomy o.sizes nodes.old house.old guest.old }
-    ensures { IfOk result (λ v. (rows : List OneRow) × (plan_in o chair v.items ≡ Ok rows)) }
-{
-    build_tree(o, nodes, house, guest);
-    let ours = &house[0..o.sizes.house.sights as usize];
-    let theirs = &guest[0..o.sizes.guest.sights as usize];
-    plan_for(heap, progress, o, chair, rounds, nodes, ours, theirs)
-}
-
 // The bytes of a plan for the player in this chair, for the rule sheet and m of a file, after at most `rounds` rounds. No program calls it yet.
 pub fn propose<P: Progress>(
     heap: Global,
@@ -657,27 +650,11 @@ pub fn propose<P: Progress>(
     chair: Player,
     rounds: u32,
     input: &[u8],
-) -> Result<Vec<u8>, NoPlan>
+) -> Result<Vec<u8>, Fault>
     ensures { MatchResult result (λ v. Proposed room chair input.now v.items) (λ e. Unproposed room chair input.now e) }
 {
-    let o = match open_chair(room, chair, input) {
-        Ok(o) => o,
-        Err(e) => return Err(NoPlan::Refused(e)),
-    };
-    let Ok(mut m) = make_memory(heap, o.sizes) else {
-        return Err(NoPlan::Memory);
-    };
-    match plan_file(
-        heap,
-        progress,
-        o,
-        chair,
-        rounds,
-        &mut m.nodes,
-        &mut m.house,
-        &mut m.guest,
-    ) {
-        Ok(plan) => Ok(plan),
-        Err(_) => Err(NoPlan::Memory),
-    }
+    let admitted = open_chair(room, chair, input)?;
+    let grown = Grown::new(heap, &mut Silent, admitted)?;
+    let plan = grown.propose(heap, progress, chair, rounds)?;
+    Ok(plan)
 }
