@@ -16,10 +16,8 @@ mod tests {
     const LARGEST: [u8; 9] = [13, 4, 1, 1, 1, 1, 3, 0, 0];
 
     fn sizes_of(bytes: &[u8]) -> Result<Sizes, Fail> {
-        match rules::read(bytes) {
-            Ok(sheet) => Ok(tree::measure(sheet)),
-            Err(_) => Err(Fail::new("no rule sheet")),
-        }
+        let sheet = rules::read(bytes).map_err(|_| Fail::new("no rule sheet"))?;
+        Ok(tree::measure(sheet))
     }
 
     // The number and the place of a refusal, or 0 and 0.

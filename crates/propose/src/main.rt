@@ -4,14 +4,15 @@
 
 ghost use Rattle.rules.specs.Sound.{Sound};
 
+use answers::Fault;
 use anyhow::anyhow;
-use rules::{Ends, Player, Sheet};
+use rules::{Player, Sheet};
 use search::{Game, Progress};
-use std::alloc::{AllocError, Global};
+use std::alloc::Global;
 use std::io::{Read, Write};
 use std::str::FromStr;
 use std::{env, fs, io};
-use tree::{History, Line, Node, Place, Sight, Sizes};
+use tree::{Node, Sight, Sizes};
 
 const HELP: &str = "usage: propose house|guest|both ROUNDS [FILE]
 
@@ -54,37 +55,6 @@ impl FromStr for Order {
 #[derive(Clone, Copy)]
 struct Unknown;
 
-// Why there is no plan: a refusal, by its number and place, or no memory.
-#[derive(Clone, Copy)]
-enum Fault {
-    Refused(u8, usize),
-    Memory,
-}
-
-impl From<AllocError> for Fault {
-    fn from(_e: AllocError) -> Fault {
-        Fault::Memory
-    }
-}
-
-impl From<rules::Refusal> for Fault {
-    fn from(e: rules::Refusal) -> Fault {
-        Fault::Refused(e.number(), e.place())
-    }
-}
-
-impl From<tree::Refusal> for Fault {
-    fn from(e: tree::Refusal) -> Fault {
-        Fault::Refused(e.number(), e.place())
-    }
-}
-
-impl From<plans::Refusal> for Fault {
-    fn from(e: plans::Refusal) -> Fault {
-        Fault::Refused(e.number(), e.place())
-    }
-}
-
 // Progress as lines on standard error. One that cannot be written is left out.
 #[derive(Clone, Copy)]
 struct Lines<'a> {
@@ -97,32 +67,12 @@ impl Progress for Lines<'_> {
     }
 }
 
-fn blank_node() -> Node {
-    Node {
-        place: Place::Over(Ends { house: 0, guest: 0 }),
-        share: 0,
-        size: 0,
-    }
-}
-
-fn blank_sight() -> Sight {
-    let line = Line { checks: 0, bets: 0 };
-    Sight {
-        own: 0,
-        history: History {
-            first: line,
-            public: None,
-            second: line,
-        },
-    }
-}
-
 // The number m after the rule sheet, checked.
 fn base(sheet: Sheet, sizes: Sizes, chair: Player, bytes: &[u8]) -> Result<u32, Fault>
     requires { Sound sheet }
 {
     let Some(m) = plans::read_base(bytes) else {
-        return Err(Fault::from(plans::Refusal::Base));
+        return Err(plans::Refusal::Base.into());
     };
     let m = plans::check_base(sheet, m)?;
     let words = match chair {
@@ -143,9 +93,9 @@ fn plan(
 ) -> Result<Vec<u8>, Fault> {
     let (front, past) = bytes.split_at(bytes.len().min(9));
     let sheet = rules::read(front)?;
-    let mut nodes = vec![in heap; blank_node(); ROOM]?;
-    let mut house = vec![in heap; blank_sight(); ROOM]?;
-    let mut guest = vec![in heap; blank_sight(); ROOM]?;
+    let mut nodes = vec![in heap; Node::default(); ROOM]?;
+    let mut house = vec![in heap; Sight::default(); ROOM]?;
+    let mut guest = vec![in heap; Sight::default(); ROOM]?;
     let sizes = tree::build(
         sheet,
         nodes.as_mut_slice(),
@@ -219,8 +169,8 @@ fn answer(
     };
     match ordered(rt, heap, order, rounds, bytes.as_slice()) {
         Ok(out) => Ok(rt.stdout().write_all(out.as_slice())?),
-        Err(Fault::Refused(number, place)) => {
-            eprintln!(rt; "refused {number} at {place}")?;
+        Err(Fault::Refused(e)) => {
+            eprintln!(rt; "{e}")?;
             Err(anyhow!("refused"))
         }
         Err(Fault::Memory) => {
