@@ -40,10 +40,3 @@ over_closed c t at i j k xs ys zs h ei ey ek ez ej =
 pub closed : (c : ℕ) (p : Play) (at i j k : ℕ) (xs ys zs : List Node) (pl : Place) → i ≡ at → zs ≡ set ys i (node pl c (k - i)) → j ≡ k →
     Written c p at xs (set ys at (node pl c (k - at))) k → Written c p at xs zs j
 closed c p at i j k xs ys zs pl ei ez ej w = record { ends = ej ∙ w.ends; holds = ez ∙ ap (λ a. set ys a (node pl c (k - a))) ei ∙ w.holds }
-
--- from the start of the memory on
-pub all_written : (c : ℕ) (p q : Play) (i k : ℕ) (xs xs' ys ys' : List Node) → i ≡ 0 → xs' ≡ xs → ys' ≡ ys → p ≡ q → Written c p i xs' ys k → Written c q 0 xs ys' (size q)
-all_written c p q i k xs xs' ys ys' ei ex ey e w =
-    let P : Play → Type 0 = λ r. Written c r 0 xs ys k in
-    let v = subst P e (begun c p 0 i k xs xs' ys ei ex w) in
-    record { ends = omega arith; holds = ey ∙ v.holds }

@@ -7,7 +7,7 @@ use Rattle.cards.specs.Reckon.{open_of, sight_number, least, last}
 use Rattle.plans.specs.declared.Row.{Row}
 use Rattle.tree.specs.Rep.{Rep}
 use Rattle.tree.specs.declared.Node.{Node}
-use Rattle.worst.specs.Items.{parts, blank, Told, told_plan, Fit, StandFor, SomeTree}
+use Rattle.worst.specs.Items.{parts, blank, Told, told_plan, Fit, StandFor}
 use Rattle.worst.specs.Worth.{mass, worth, branch, Choice, AllAt, There}
 use Rattle.worst.specs.Rows.{Rows, SomeRows, SomeKth, SomeGroup, Gathered}
 use Rattle.worst.specs.declared.Entry.{Entry}
@@ -51,11 +51,6 @@ pub entry_there : (w : Told) (xs : List Item) (nodes : List Node) (rows : List R
 entry_there w xs nodes rows m powers len j work q l =
     subst (λ e. StandFor w.table m nodes e (get_or xs j item0)) (get_or-take len work j blank l)
     (entries_at w.table m nodes (take len work) xs j q.row (rw (length-take-le len work q.len_le) l))
-
-pub first_tree : (nodes : List Node) (rows : List Row) (m : ℕ) (powers : List ℕ) (len : ℕ) (work : List Entry) → SomeGroup nodes rows m powers len work → SomeTree nodes (get_or work 0 blank).at
-first_tree nodes rows m powers len work p =
-    let s = entry_there p.told p.items nodes rows m powers len 0 work p.given p.some in
-    record { table = p.told.table; base = m; tree = (get_or p.items 0 item0).tree; rep = s.rep; few = p.given.bounds.few }
 
 choices_are : (m : ℕ) (plan : Plan) (choices : ℕ → ℕ) (most n : ℕ) (t : Tree) → Choice t → Fit m plan choices most t n → choices (sight_number t) ≡ many (parts t)
 unfolding parts

@@ -1,6 +1,6 @@
 -- The powers of m.
-use Rattle.std.proofs.Common.{◌≡◌, ℕ, suc, ◌+◌, ◌*◌, ◌^◌, ◌<◌, ◌≤◌, ◌⊎◌, List, length, get_or, set, replicate, sym, refl, ap, ◌∙◌, inl, inr, pow-suc, add-one, arith, length-set, pow_mono}
-use native.Mathlib.Nat.{pow-zero, pow-le-pow_left, pow-le-pow_right}
+use Rattle.std.proofs.Common.{◌≡◌, ℕ, suc, ◌+◌, ◌*◌, ◌^◌, ◌<◌, ◌≤◌, ◌⊎◌, List, length, get_or, set, sym, ap, ◌∙◌, inl, inr, pow-suc, add-one, arith, length-set, pow_mono}
+use native.Mathlib.Nat.{pow-le-pow_left, pow-le-pow_right}
 use Rattle.std.proofs.lemmas.List.{get_or-set_same, get_or-set_other}
 use Rattle.std.proofs.lemmas.Bool.{cases_lt, cases_eq}
 use Rattle.worst.specs.Items.{Powers}
@@ -17,9 +17,6 @@ words_few m n b h = go (cases_lt n 62)
 
 abbrev pub Raised : ℕ → List ℕ → ℕ → Type 0
 Raised m powers i = (length powers ≡ 62) × ((j : ℕ) → j ≤ i → get_or powers j 0 ≡ m ^ j)
-
-pub raised_none : (m : ℕ) → Raised m (replicate 62 1) 0
-raised_none m = (refl, λ j l. let e : j ≡ 0 = omega arith in rw e (sym (pow-zero m)))
 
 pub raised_small : (m n : ℕ) (powers : List ℕ) (i : ℕ) → 2 ≤ m → m ^ n < 2 ^ 62 → Raised m powers i → i < n → (i < 61) × (get_or powers i 0 * m < 2 ^ 62)
 raised_small m n powers i b h r l =

@@ -69,9 +69,6 @@ abbrev pub RoundInv : List Node → List Row → ℕ → List ℕ → ℕ → Li
 RoundInv nodes rows m powers len before later left total =
     (length later ≡ length before) × ((w : Told) (xs : List Item) → Rows w xs nodes rows m powers len before → Going w xs nodes rows m powers later left total)
 
-pub round_none : (nodes : List Node) (rows : List Row) (m : ℕ) (powers : List ℕ) (len : ℕ) (before : List Entry) → RoundInv nodes rows m powers len before before len 0
-round_none nodes rows m powers len before = (refl, λ w xs q. record { items = xs; given = q; sum = omega arith })
-
 now_rows : (nodes : List Node) (rows : List Row) (m : ℕ) (powers : List ℕ) (len : ℕ) (before later : List Entry) (left total : ℕ) → (p : SomeRows nodes rows m powers len before) →
     RoundInv nodes rows m powers len before later left total → Going p.told p.items nodes rows m powers later left total
 now_rows nodes rows m powers len before later left total p inv = inv.1 p.told p.items p.given

@@ -1,14 +1,12 @@
 -- The loop that puts a row together by sight.
 use Rattle.std.proofs.Common.{◌≡◌, ℕ, suc, ◌+◌, ◌-◌, ◌<◌, ◌≤◌, true, false, List, [], ◌∷◌, ◌++◌, length, get_or, take, drop, set, sym, refl, ap, ◌∙◌, append-nil, arith, length-append, length-drop}
-use lib.Seq.{paste}
 use Rattle.std.proofs.lemmas.List.{get_or-set_other, take_more, take_more_set, take-set-le, drop-set-add, drop-set-lt, length-take-le, take-append-drop, take-take}
-use Rattle.std.proofs.lemmas.List.Edits.{take-paste}
 use Rattle.std.proofs.lemmas.Bool.{eq-eqb, ne_eqb}
 use Rattle.cards.specs.Game.{pick}
 use Rattle.tree.specs.Rep.{node_at}
 use Rattle.tree.specs.declared.Node.{Node}
 use Rattle.worst.specs.Items.{blank, place_sight}
-use Rattle.worst.specs.Group.{entry_at, sames, rest_of_row, Groupable, Grouped}
+use Rattle.worst.specs.Group.{entry_at, sames, rest_of_row, Groupable}
 use Rattle.worst.specs.declared.Entry.{Entry}
 
 pub sames-++ : (nodes : List Node) (s : ℕ) (es fs : List Entry) → sames nodes s (es ++ fs) ≡ sames nodes s es ++ sames nodes s fs
@@ -39,9 +37,6 @@ pub record Sift (nodes : List Node) (s len : ℕ) (before later : List Entry) (j
   pub aside : take (j - kept) (drop len later) ≡ sames nodes s (take j before)
   pub ahead : (i : ℕ) → j ≤ i → i < len → get_or later i blank ≡ get_or before i blank
 
-pub sift_none : (nodes : List Node) (s len : ℕ) (before : List Entry) → Sift nodes s len before before 0 0
-sift_none nodes s len before = record { behind = omega arith; front = refl; aside = refl; ahead = λ i a b. refl }
-
 -- how many were set aside
 pub sift_count : (nodes : List Node) (s len : ℕ) (before later : List Entry) (j kept : ℕ) → Groupable nodes s len before → length later ≡ length before → j ≤ len → Sift nodes s len before later j kept →
     (kept ≡ length (rest_of_row nodes s (take j before))) × (j - kept ≡ length (sames nodes s (take j before)))
@@ -59,9 +54,6 @@ aside_le nodes s len before j l =
     let e : take len before ≡ take j before ++ drop j (take len before) = sym (take-append-drop j (take len before)) ∙ ap (λ zs. zs ++ drop j (take len before)) (take-take j len before l) in
     let a : length (sames nodes s (take len before)) ≡ length (sames nodes s (take j before) ++ sames nodes s (drop j (take len before))) = ap (λ zs. length (sames nodes s zs)) e ∙ ap length (sames-++ nodes s (take j before) (drop j (take len before))) in
     let b = length-append (sames nodes s (take j before)) (sames nodes s (drop j (take len before))) in omega arith
-
-pub sift_inside : (nodes : List Node) (s len : ℕ) (before later : List Entry) (j kept : ℕ) → Groupable nodes s len before → j < len → Sift nodes s len before later j kept → (get_or later j blank).at < length nodes
-sift_inside nodes s len before later j kept p l d = rw (d.ahead j (omega arith) l) (p.inside j l)
 
 one_same : (nodes : List Node) (s : ℕ) (e : Entry) → place_sight (node_at nodes e.at).place ≡ s → (sames nodes s (e ∷ []) ≡ e ∷ []) × (rest_of_row nodes s (e ∷ []) ≡ [])
 one_same nodes s e h = let t : entry_at nodes s e ≡ true = eq-eqb s _ (sym h) in (rw t refl, rw t refl)
@@ -126,19 +118,3 @@ moved_fits nodes s len before later j kept p kl e d =
     let n = sift_count nodes s len before later j kept p kl (omega arith) d in
     let a = aside_le nodes s len before j (omega arith) in
     let n1 = n.1 in let bh = d.behind in let sp = p.spare in (omega arith, omega arith)
-
-pub sift_all : (nodes : List Node) (s len : ℕ) (before later after : List Entry) (j kept n : ℕ) → Groupable nodes s len before → length later ≡ length before → j ≡ len → Sift nodes s len before later j kept →
-    n ≡ len - kept → after ≡ paste later kept (drop len later) n → Grouped nodes s len before after kept
-sift_all nodes s len before later after j kept n p kl e d en ea =
-    let c = sift_count nodes s len before later j kept p kl (omega arith) d in
-    let f = moved_fits nodes s len before later j kept p kl e d in
-    let f0 = f.0 in let f1 = f.1 in
-    let ld : n ≤ length (drop len later) = rw (length-drop len later) (omega arith) in
-    let q : len ≡ kept + n = omega arith in
-    let g : n ≡ j - kept = omega arith in
-    record {
-      count = c.0 ∙ ap (λ z. length (rest_of_row nodes s (take z before))) e;
-      taken = ap (take len) ea ∙ ap (λ z. take z (paste later kept (drop len later) n)) q ∙ take-paste later kept (drop len later) n (omega arith) ld
-          ∙ ap (λ zs. zs ++ take n (drop len later)) (d.front ∙ ap (λ z. rest_of_row nodes s (take z before)) e)
-          ∙ ap (λ zs. rest_of_row nodes s (take len before) ++ zs) (ap (λ z. take z (drop len later)) g ∙ d.aside ∙ ap (λ z. sames nodes s (take z before)) e);
-    }

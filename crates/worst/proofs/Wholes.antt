@@ -1,5 +1,5 @@
 -- The whole tree.
-use Rattle.std.proofs.Common.{◌≡◌, ℕ, ◌+◌, ◌*◌, ◌^◌, ◌<◌, ◌≤◌, List, [], ◌∷◌, ◌++◌, length, ap, append-nil, mul_comm, le-mul_of_pos_right, arith}
+use Rattle.std.proofs.Common.{◌≡◌, ℕ, ◌+◌, ◌*◌, ◌^◌, ◌<◌, ◌≤◌, List, [], ◌∷◌, ◌++◌, length, ap, append-nil, arith}
 use Rattle.cards.specs.Game.{Tree, Trees, Plan}
 use Rattle.cards.specs.Floor.{Item}
 use Rattle.cards.specs.Promise.{Well, well_over, well_deal, well_ours, well_theirs, Wells, wells_none, wells_more, AtMost, most_over, most_deal, most_ours, most_theirs, AllMost, most_none, most_more}
@@ -11,7 +11,7 @@ use Rattle.worst.specs.Items.{Told, told_plan, Bounds, Powers, Fit, Fits}
 use Rattle.worst.specs.Spread.{Ready, Spread}
 use Rattle.worst.specs.Worth.{worth}
 use Rattle.worst.specs.Rows.{Rows}
-use Rattle.worst.specs.Whole.{Whole, SomeWhole}
+use Rattle.worst.specs.Whole.{Whole}
 use Rattle.worst.specs.declared.Entry.{Entry}
 use Rattle.worst.specs.declared.Grown.{Grown}
 use Rattle.worst.proofs.Sums.{sure_mass, open_room, length_room, entries_length}
@@ -37,15 +37,6 @@ told k words c choices = record { table = k; words = words; counts = c; choices 
 
 once : (k m n : ℕ) → k * (1 * m ^ n) ≡ k * m ^ n
 once k m n = ap (λ z. k * z) (omega arith)
-
--- the powers that are asked for are small
-pub whole_power : (nodes : List Node) (rows : List Row) (m words space : ℕ) → SomeWhole nodes rows m words space → (2 ≤ m) × (m ^ words < 2 ^ 62)
-whole_power nodes rows m words space p =
-    let q = p.whole in
-    let a : m ^ words ≤ m ^ words * p.table = le-mul_of_pos_right (m ^ words) q.some in
-    let b : m ^ words * p.table ≡ p.table * m ^ words = mul_comm _ _ in
-    let s = q.small in
-    (q.base, omega arith)
 
 module _ (k : ℕ) (t : Tree) (c choices : ℕ → ℕ) (nodes : List Node) (rows : List Row) (m words : ℕ) (powers : List ℕ) (ps : Powers m words powers) where
   pub whole_bounds : (space : ℕ) → Whole k t c choices nodes rows m words space → Bounds (told k words c choices) nodes m powers
