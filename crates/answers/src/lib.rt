@@ -229,6 +229,7 @@ impl fmt::Display for Kept {
 }
 
 // What the reckoning program has to say of a file.
+// Kept: a refusal is one of the three texts that are printed; a Result could have no Display of its own.
 #[derive(Clone, Copy)]
 pub enum Answer {
     Refused(Refusal),

@@ -17,6 +17,7 @@ use tree::{Node, Place};
 const HALF: u64 = 0x1_0000_0000;
 
 // A number in two halves of 64 bits.
+// Kept: halves and no u128, since the project asks that the bracket is worked out in halves.
 #[derive(Clone, Copy, PartialEq, Eq)]
 pub struct Wide {
     pub high: u64,

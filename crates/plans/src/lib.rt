@@ -19,6 +19,7 @@ use std::alloc::{AllocError, Global};
 use tree::{Node, Place, Sight};
 
 // The weights of one sight of the house, one for each choice; unused ones are 0.
+// Kept: three weights and no slice: a row has its numbers in one place, and the sight says how many there are.
 #[derive(Clone, Copy)]
 pub struct Row {
     pub weights: [u32; 3],

@@ -37,6 +37,7 @@ pub struct Bets {
     pub second: u8,
 }
 
+// Kept: that a sheet is within its ranges (`Sound`) is no ghost field, since the theorems speak of every sheet.
 // A rule sheet. `public` says whether a card is shown to both before a second round; `reserved` is 0 in every sheet so far.
 #[derive(Clone, Copy)]
 pub struct Sheet {
@@ -57,6 +58,7 @@ pub struct Ends {
 }
 
 // Why bytes are no rule sheet.
+// Kept: `number` and `place` stand with the refusals of each crate and are no trait, since nothing is generic over them.
 #[derive(Clone, Copy)]
 pub enum Refusal {
     // there are so many bytes, and not nine

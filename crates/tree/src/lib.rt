@@ -69,6 +69,7 @@ impl Sight {
     }
 
     // The choice that was made so many choices before the last one.
+    // Kept: a choice is its number among those offered, as in a file and in the order of the trees, and no enum.
     pub fn choice(self, back: usize) -> Option<u8>
         ensures { result ≡ nth (told self).choices back }
     {
@@ -977,6 +978,7 @@ pub fn admit(sizes: Sizes, nodes: usize, house: usize, guest: usize) -> Result<S
 }
 
 // Writes the tree of a rule sheet and the sights of each player, or refuses and touches nothing.
+// Kept: the memory is lent and may be longer, so how much of it is written stands in the answer.
 pub fn build(
     sheet: Sheet,
     nodes: &mut [Node],

@@ -87,6 +87,7 @@ fn powers_of(m: u32, words: u32) -> [u64; 62]
 }
 
 // The number of the guest's sight at a place.
+// Kept: 0 at any other place and no Option, since the row has only choices of the guest and nothing asks of others.
 fn sight_of(place: Place) -> u32
     ensures { result ≡ place_sight place }
 {
