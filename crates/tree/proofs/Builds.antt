@@ -36,7 +36,7 @@ admitted_same y z n h g e = go (leb z.places n) (leb z.house.sights h) (leb z.gu
     go false b c d q = no_ok NoRoom y (sym q)
 
 module _ (s : Sheet) (h : Sound s) where
-  abbrev like : Like s.raises s.public (R.game s) (game_as s)
+  abbrev like : Like s.ranks s.raises s.public (R.game s) (game_as s)
   like = game_like s h.ranks.most
 
   rep_stands : (m : ℕ) (ns rest : List Node) → ns ≡ nodes_of s ++ rest → Rep (2 * purse s) m ns 0 (S.tree s m)
@@ -44,9 +44,9 @@ module _ (s : Sheet) (h : Sound s) where
       let H = sights_of House (game_as s) in
       let G = sights_of Guest (game_as s) in
       let t : S.numbered m (map told H) (map told G) (R.game s) ≡ S.tree s m =
-      ap (λ l. S.numbered m l (map told G) (R.game s)) (sym (sights_to s.raises s.public House like)) ∙ ap (λ l. S.numbered m (S.sights House (R.game s)) l (R.game s)) (sym (sights_to s.raises s.public Guest like)) in
+      ap (λ l. S.numbered m l (map told G) (R.game s)) (sym (sights_to s.ranks s.raises s.public House like)) ∙ ap (λ l. S.numbered m (S.sights House (R.game s)) l (R.game s)) (sym (sights_to s.ranks s.raises s.public Guest like)) in
       let P : Tree → Type 0 = Rep (2 * purse s) m ns 0 in
-      subst P t (rep_of s.raises s.public (2 * purse s) m H G (sights_valid s.raises s.public House like) (sights_valid s.raises s.public Guest like) like (ends_sum s) ns rest 0 0 e)
+      subst P t (rep_of s.ranks s.raises s.public (2 * purse s) m H G (sights_valid s.ranks s.raises s.public House like) (sights_valid s.ranks s.raises s.public Guest like) like (ends_sum s) ns rest 0 0 e)
 
   pub nodes_length : length (nodes_of s) ≡ R.count (R.game s)
   nodes_length = length_flat (λ z. place_of z (sights_of House (game_as s))) (λ z. place_of z (sights_of Guest (game_as s))) 0 (game_as s) ∙ size_is s h
@@ -60,5 +60,5 @@ module _ (s : Sheet) (h : Sound s) where
         house_are = bh;
         guest_are = bg;
         stands = λ m. rep_stands m n1 rest e;
-        told_are = λ w. sym (sights_to s.raises s.public w like);
+        told_are = λ w. sym (sights_to s.ranks s.raises s.public w like);
       }

@@ -20,12 +20,12 @@ use Rattle.tree.specs.Seen.{met, met_all, own_turn, as_list}
 use Rattle.tree.specs.Told.{listed, ended, history_choices, told}
 use Rattle.tree.proofs.Valid.{line_of, Ended, both_checked, called, Valid}
 
-module _ (x : ℕ) (p : Bool) where
+module _ (d x : ℕ) (p : Bool) where
   mutual
     pub data Like : R.Place → Play → Type 0 where
       ends : {e f : Ends} → e ≡ f → Like (R.end e) (end f)
       deals : (cs : List ℕ) {ps : R.Places} {qs : Plays} → Likes ps qs → Like (R.dealt cs ps) (dealt cs qs)
-      turns : (w : Player) {s : R.Sight} {z : Sight} {ps : R.Places} {qs : Plays} → s ≡ told z → Valid x p z → Likes ps qs → Like (R.turn w s ps) (turn w z qs)
+      turns : (w : Player) {s : R.Sight} {z : Sight} {ps : R.Places} {qs : Plays} → s ≡ told z → Valid d x p z → Likes ps qs → Like (R.turn w s ps) (turn w z qs)
 
     pub data Likes : R.Places → Plays → Type 0 where
       nil : Likes R.no_more no_more
@@ -93,16 +93,16 @@ low House s = s.low_house
 low Guest s = s.low_guest
 
 -- a round; hist c j is what is stored after c checks and j bets and raises in it, and base lists the choices before it
-record Round (X : ℕ) (p : Bool) (hist : ℕ → ℕ → History) (base : List ℕ) : Type 0 where
+record Round (D X : ℕ) (p : Bool) (hist : ℕ → ℕ → History) (base : List ℕ) : Type 0 where
   check : (c : ℕ) → hears_as Check (hist c 0) ≡ hist (suc c) 0
   bet : (c k : ℕ) → hears_as Bet (hist c k) ≡ hist c (suc k)
   raise : (c k : ℕ) → hears_as Raise (hist c k) ≡ hist c (suc k)
   call : (c k : ℕ) → hears_as Call (hist c k) ≡ hist c k
   tells : (c k : ℕ) → history_choices (hist c k) ≡ listed c k ++ base
-  fine : (c k o : ℕ) → c ≤ 1 → k ≤ X + 1 → o < 13 → Valid X p (record { own = o; history = hist c k })
+  fine : (c k o : ℕ) → c ≤ 1 → k ≤ X + 1 → o < 13 → Valid D X p (record { own = o; history = hist c k })
 
-module _ (X : ℕ) (p : Bool) (t b : ℕ) (f : R.Hand → R.Place) (g : Hand → Play) (hist : ℕ → ℕ → History) (base : List ℕ) (R1 : Round X p hist base)
-    (goes : (h : R.Hand) (k : Hand) (c j : ℕ) → Ended X (line_of c j) → Same h k → k.history ≡ hist c j → h.choices ≡ ended c j ++ base → Like X p (f h) (g k)) where
+module _ (D X : ℕ) (p : Bool) (t b : ℕ) (f : R.Hand → R.Place) (g : Hand → Play) (hist : ℕ → ℕ → History) (base : List ℕ) (R1 : Round D X p hist base)
+    (goes : (h : R.Hand) (k : Hand) (c j : ℕ) → Ended X (line_of c j) → Same h k → k.history ≡ hist c j → h.choices ≡ ended c j ++ base → Like D X p (f h) (g k)) where
   record At (c j : ℕ) (h : R.Hand) (k : Hand) : Type 0 where
     same : Same h k
     history : k.history ≡ hist c j
@@ -111,9 +111,9 @@ module _ (X : ℕ) (p : Bool) (t b : ℕ) (f : R.Hand → R.Place) (g : Hand →
   sighted : (w : Player) (c j : ℕ) {h : R.Hand} {k : Hand} → At c j h k → R.sight w h ≡ told (sight_of w k)
   sighted w c j a = sight_told w a.same (a.choices ∙ sym (R1.tells c j) ∙ ap history_choices (sym a.history))
 
-  valid_at : (w : Player) (c j : ℕ) {h : R.Hand} {k : Hand} → c ≤ 1 → j ≤ X + 1 → At c j h k → Valid X p (sight_of w k)
+  valid_at : (w : Player) (c j : ℕ) {h : R.Hand} {k : Hand} → c ≤ 1 → j ≤ X + 1 → At c j h k → Valid D X p (sight_of w k)
   valid_at w c j {k = k} hc hj a =
-      let P : History → Type 0 = λ u. Valid X p (record { own = rank_of w k; history = u }) in
+      let P : History → Type 0 = λ u. Valid D X p (record { own = rank_of w k; history = u }) in
       subst P (sym a.history) (R1.fine c j (rank_of w k) hc hj (low w a.same))
 
   check_at : (w : Player) (c : ℕ) {h : R.Hand} {k : Hand} → At c 0 h k → At (suc c) 0 (R.acts w check 0 h) (acted_as w Check 0 k)
@@ -137,18 +137,18 @@ module _ (X : ℕ) (p : Bool) (t b : ℕ) (f : R.Hand → R.Place) (g : Hand →
     choices = ap (λ l. raise ∷ l) a.choices;
   }
 
-  call_like : (w : Player) (c j : ℕ) {h : R.Hand} {k : Hand} → c ≤ 1 → suc j ≤ X + 1 → At c (suc j) h k → Like X p (f (R.acts w call (R.due w h) h)) (g (acted_as w Call (due_of w k.paid) k))
+  call_like : (w : Player) (c j : ℕ) {h : R.Hand} {k : Hand} → c ≤ 1 → suc j ≤ X + 1 → At c (suc j) h k → Like D X p (f (R.acts w call (R.due w h) h)) (g (acted_as w Call (due_of w k.paid) k))
   call_like w c j hc hj a =
       goes _ _ c (suc j) (called c j hc hj) (acts_same w call Call _ _ (due_same w a.same) a.same) (ap (hears_as Call) a.history ∙ R1.call c (suc j)) (ap (λ l. call ∷ l) a.choices)
 
-  answers_like : (y c j : ℕ) (w : Player) {h : R.Hand} {k : Hand} → c ≤ 1 → suc j + y ≤ X + 1 → At c (suc j) h k → Like X p (R.answers t b f y w h) (answers_as t b g y w k)
+  answers_like : (y c j : ℕ) (w : Player) {h : R.Hand} {k : Hand} → c ≤ 1 → suc j + y ≤ X + 1 → At c (suc j) h k → Like D X p (R.answers t b f y w h) (answers_as t b g y w k)
   answers_like zero c j w hc hj a =
       turns w (sighted w c (suc j) a) (valid_at w c (suc j) hc (omega arith) a) (both (ends (won_same t (other w) a.same)) (both (call_like w c j hc (omega arith) a) nil))
   answers_like (suc y) c j w hc hj a =
       turns w (sighted w c (suc j) a) (valid_at w c (suc j) hc (omega arith) a)
       (both (ends (won_same t (other w) a.same)) (both (call_like w c j hc (omega arith) a) (both (answers_like y c (suc j) (other w) hc (omega arith) (raise_at w c j a)) nil)))
 
-  round_like : (w : Player) {h : R.Hand} {k : Hand} → At 0 0 h k → Like X p (R.round t b f X w h) (round_as t b g X w k)
+  round_like : (w : Player) {h : R.Hand} {k : Hand} → At 0 0 h k → Like D X p (R.round t b f X w h) (round_as t b g X w k)
   round_like w a =
       let a1 = check_at w 0 a in
       let a2 = check_at (other w) 1 a1 in
@@ -157,14 +157,14 @@ module _ (X : ℕ) (p : Bool) (t b : ℕ) (f : R.Hand → R.Place) (g : Hand →
       (both (goes _ _ 2 0 both_checked a2.same a2.history a2.choices) (both (answers_like X 1 0 (other (other w)) (omega arith) (omega arith) (bet_at (other w) 1 a1)) nil)))
       (both (answers_like X 0 0 (other w) (omega arith) (omega arith) (bet_at w 0 a)) nil))
 
-each_like : (X : ℕ) (p : Bool) (r : ℕ) (deck : List ℕ) (f : ℕ → R.Place) (g : ℕ → Play) → ((q : ℕ) → q < r + length deck → Like X p (f q) (g q)) → Likes X p (R.each r deck f) (each r deck g)
-each_like X p r [] f g same = nil
-each_like X p r (zero ∷ deck) f g same = each_like X p (suc r) deck f g (λ q h. same q (omega arith))
-each_like X p r (suc c ∷ deck) f g same = both (same r (omega arith)) (each_like X p (suc r) deck f g (λ q h. same q (omega arith)))
+each_like : (D X : ℕ) (p : Bool) (r : ℕ) (deck : List ℕ) (f : ℕ → R.Place) (g : ℕ → Play) → ((q : ℕ) → q < r + length deck → Like D X p (f q) (g q)) → Likes D X p (R.each r deck f) (each r deck g)
+each_like D X p r [] f g same = nil
+each_like D X p r (zero ∷ deck) f g same = each_like D X p (suc r) deck f g (λ q h. same q (omega arith))
+each_like D X p r (suc c ∷ deck) f g same = both (same r (omega arith)) (each_like D X p (suc r) deck f g (λ q h. same q (omega arith)))
 
 -- the first round, and the second after a first that ended so
-first_round : (X : ℕ) (p : Bool) → Round X p (λ c k. record { first = line_of c k; public = None; second = line_of 0 0 }) []
-first_round X p = record {
+first_round : (D X : ℕ) (p : Bool) → Round D X p (λ c k. record { first = line_of c k; public = None; second = line_of 0 0 }) []
+first_round D X p = record {
   check = λ c. ap (λ n. record { first = line_of n 0; public = None; second = line_of 0 0 }) (add-one c);
   bet = λ c k. ap (λ n. record { first = line_of c n; public = None; second = line_of 0 0 }) (add-one k);
   raise = λ c k. ap (λ n. record { first = line_of c n; public = None; second = line_of 0 0 }) (add-one k);
@@ -173,8 +173,8 @@ first_round X p = record {
   fine = λ c k o hc hk ho. record { own = ho; history = ((hc, hk), refl) };
 }
 
-second_round : (X : ℕ) (c j r : ℕ) → Ended X (line_of c j) → r < 13 → Round X true (λ d k. record { first = line_of c j; public = Some r; second = line_of d k }) (ended c j)
-second_round X c j r e hr = record {
+second_round : (D X : ℕ) (c j r : ℕ) → Ended X (line_of c j) → r < D → Round D X true (λ d k. record { first = line_of c j; public = Some r; second = line_of d k }) (ended c j)
+second_round D X c j r e hr = record {
   check = λ d. ap (λ n. record { first = line_of c j; public = Some r; second = line_of n 0 }) (add-one d);
   bet = λ d k. ap (λ n. record { first = line_of c j; public = Some r; second = line_of d n }) (add-one k);
   raise = λ d k. ap (λ n. record { first = line_of c j; public = Some r; second = line_of d n }) (add-one k);
@@ -187,42 +187,42 @@ abbrev end_first : ℕ → ℕ → History
 end_first c j = record { first = line_of c j; public = None; second = line_of 0 0 }
 
 module _ (s : Sheet) where
-  final_like : (p : Bool) (o : Option ℕ) (h : R.Hand) (k : Hand) → Same h k → k.history.public ≡ o → Like s.raises p (R.final s h) (end (settled_as (purse s) o k))
+  final_like : (p : Bool) (o : Option ℕ) (h : R.Hand) (k : Hand) → Same h k → k.history.public ≡ o → Like s.ranks s.raises p (R.final s h) (end (settled_as (purse s) o k))
   final_like p o h k q e = ends (ap (λ u. R.settled (purse s) u h) (q.public ∙ e) ∙ settled_same (purse s) o q)
 
-  shown_like : (r c j : ℕ) (h : R.Hand) (k : Hand) → r < 13 → Ended s.raises (line_of c j) → Same h k → k.history ≡ end_first c j → h.choices ≡ ended c j ++ [] →
-      Like s.raises true (R.round (purse s) s.bets.second (R.final s) s.raises s.begins (R.shows r h)) (shown_as s r k)
+  shown_like : (r c j : ℕ) (h : R.Hand) (k : Hand) → r < s.ranks → Ended s.raises (line_of c j) → Same h k → k.history ≡ end_first c j → h.choices ≡ ended c j ++ [] →
+      Like s.ranks s.raises true (R.round (purse s) s.bets.second (R.final s) s.raises s.begins (R.shows r h)) (shown_as s r k)
   shown_like r c j h k hr e q eh ec =
-      round_like s.raises true (purse s) s.bets.second (R.final s) (λ h'. end (paired_as (purse s) r h')) (λ d i. record { first = line_of c j; public = Some r; second = line_of d i }) (ended c j)
-      (second_round s.raises c j r e hr) (λ h' k' d i _ q' e' _. final_like true (Some r) h' k' q' (ap (λ (u : History). u.public) e')) s.begins {h = R.shows r h} {k = shows r k}
+      round_like s.ranks s.raises true (purse s) s.bets.second (R.final s) (λ h'. end (paired_as (purse s) r h')) (λ d i. record { first = line_of c j; public = Some r; second = line_of d i }) (ended c j)
+      (second_round s.ranks s.raises c j r e hr) (λ h' k' d i _ q' e' _. final_like true (Some r) h' k' q' (ap (λ (u : History). u.public) e')) s.begins {h = R.shows r h} {k = shows r k}
       (record {
         same = record { house = q.house; guest = q.guest; paid_house = q.paid_house; paid_guest = q.paid_guest; public = refl; low_house = q.low_house; low_guest = q.low_guest };
         history = ap (λ (u : History). record { first = u.first; public = Some r; second = u.second }) eh;
         choices = ec ∙ append-nil (ended c j);
       })
 
-  follow_like : (p : Bool) (deck : List ℕ) → length deck ≤ 13 → (h : R.Hand) (k : Hand) (c j : ℕ) → Ended s.raises (line_of c j) → Same h k → k.history ≡ end_first c j → h.choices ≡ ended c j ++ [] →
-      Like s.raises p (pick p (R.second s deck) (R.final s) h) (pick p (second_as s deck) (λ h'. end (higher_as (purse s) h')) k)
-  follow_like true deck l h k c j e q eh ec = deals (left deck) (each_like s.raises true 0 deck _ (λ r. shown_as s r k) (λ r hr. shown_like r c j h k (omega arith) e q eh ec))
+  follow_like : (p : Bool) (deck : List ℕ) → length deck ≤ s.ranks → (h : R.Hand) (k : Hand) (c j : ℕ) → Ended s.raises (line_of c j) → Same h k → k.history ≡ end_first c j → h.choices ≡ ended c j ++ [] →
+      Like s.ranks s.raises p (pick p (R.second s deck) (R.final s) h) (pick p (second_as s deck) (λ h'. end (higher_as (purse s) h')) k)
+  follow_like true deck l h k c j e q eh ec = deals (left deck) (each_like s.ranks s.raises true 0 deck _ (λ r. shown_as s r k) (λ r hr. shown_like r c j h k (omega arith) e q eh ec))
   follow_like false deck l h k c j e q eh ec = final_like false None h k q (ap (λ (u : History). u.public) eh)
 
-  first_like : (p : Bool) (deck : List ℕ) → length deck ≤ 13 → (a b : ℕ) → a < 13 → b < 13 →
-      Like s.raises p (R.round (purse s) s.bets.first (pick p (R.second s deck) (R.final s)) s.raises s.begins (R.sits s.bets.ante a b))
+  first_like : (p : Bool) (deck : List ℕ) → length deck ≤ s.ranks → (a b : ℕ) → a < 13 → b < 13 →
+      Like s.ranks s.raises p (R.round (purse s) s.bets.first (pick p (R.second s deck) (R.final s)) s.raises s.begins (R.sits s.bets.ante a b))
       (round_as (purse s) s.bets.first (pick p (second_as s deck) (λ h'. end (higher_as (purse s) h'))) s.raises s.begins (sits s.bets.ante a b))
   first_like p deck l a b ha hb =
-      round_like s.raises p (purse s) s.bets.first _ _ end_first [] (first_round s.raises p) (follow_like p deck l) s.begins {h = R.sits s.bets.ante a b} {k = sits s.bets.ante a b}
+      round_like s.ranks s.raises p (purse s) s.bets.first _ _ end_first [] (first_round s.ranks s.raises p) (follow_like p deck l) s.begins {h = R.sits s.bets.ante a b} {k = sits s.bets.ante a b}
       (record { same = record { house = refl; guest = refl; paid_house = refl; paid_guest = refl; public = refl; low_house = ha; low_guest = hb }; history = refl; choices = refl })
 
-  pub game_like : s.ranks ≤ 13 → Like s.raises s.public (R.game s) (game_as s)
+  pub game_like : s.ranks ≤ 13 → Like s.ranks s.raises s.public (R.game s) (game_as s)
   game_like h =
       let D = replicate s.ranks s.copies in
-      let l_d : length D ≤ 13 = (let l = length-replicate s.ranks s.copies in omega (arith, l)) in
+      let l_d : length D ≤ s.ranks = (let l = length-replicate s.ranks s.copies in omega (arith, l)) in
       let lw : (a : ℕ) (d : List ℕ) → length (without a d) ≡ length d = λ a d. length-set d a (get_or d a 0 - 1) in
-      deals (left D) (each_like s.raises s.public 0 D _ _ (λ a ha. deals (left (without a D)) (each_like s.raises s.public 0 (without a D) _ _ (λ b hb.
+      deals (left D) (each_like s.ranks s.raises s.public 0 D _ _ (λ a ha. deals (left (without a D)) (each_like s.ranks s.raises s.public 0 (without a D) _ _ (λ b hb.
       first_like s.public (without b (without a D)) (let l1 = lw b (without a D) in let l2 = lw a D in omega (arith, l1, l2)) a b (omega arith) (let l2 = lw a D in omega (arith, l2))))))
 
 -- the sights met on both sides
-module _ (x : ℕ) (p : Bool) where
+module _ (d x : ℕ) (p : Bool) where
   own_like : (w v : Player) (z : Sight) (l : List R.Sight) → pick (S.is_same_player w v) (told z ∷ l) l ≡ map told (as_list (own_turn w v z)) ++ l
   own_like House House z l = refl
   own_like House Guest z l = refl
@@ -230,14 +230,14 @@ module _ (x : ℕ) (p : Bool) where
   own_like Guest Guest z l = refl
 
   mutual
-    pub met_like : (w : Player) {q : R.Place} {r : Play} → Like x p q r → S.met w q ≡ map told (met w r)
+    pub met_like : (w : Player) {q : R.Place} {r : Play} → Like d x p q r → S.met w q ≡ map told (met w r)
     met_like w (ends e) = refl
     met_like w (deals cs l) = mets_like w l
     met_like w (turns v {s = s} {z = z} {ps = ps} {qs = qs} e f l) =
         ap (λ u. pick (S.is_same_player w v) (u ∷ S.met_all w ps) (S.met_all w ps)) e ∙ ap (λ m. pick (S.is_same_player w v) (told z ∷ m) m) (mets_like w l)
         ∙ own_like w v z (map told (met_all w qs)) ∙ sym (map-append told (as_list (own_turn w v z)) (met_all w qs))
 
-    pub mets_like : (w : Player) {ps : R.Places} {qs : Plays} → Likes x p ps qs → S.met_all w ps ≡ map told (met_all w qs)
+    pub mets_like : (w : Player) {ps : R.Places} {qs : Plays} → Likes d x p ps qs → S.met_all w ps ≡ map told (met_all w qs)
     mets_like w nil = refl
     mets_like w (both {q = q} {r = r} {ps = ps} {qs = qs} l k) =
         ap (λ z. z ++ S.met_all w ps) (met_like w l) ∙ ap (λ z. map told (met w r) ++ z) (mets_like w k) ∙ sym (map-append told (met w r) (met_all w qs))

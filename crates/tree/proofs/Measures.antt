@@ -14,19 +14,19 @@ use Rattle.tree.specs.Compact.{Play, Plays, size, sizes, game_as}
 use Rattle.tree.specs.Built.{sizes_of, Measured}
 use Rattle.tree.proofs.Like.{Like, ends, deals, turns, Likes, nil, both, game_like}
 
-module _ (x : ℕ) (p : Bool) where
+module _ (d x : ℕ) (p : Bool) where
   mutual
-    count_like : {q : R.Place} {r : Play} → Like x p q r → R.count q ≡ size r
+    count_like : {q : R.Place} {r : Play} → Like d x p q r → R.count q ≡ size r
     count_like (ends e) = refl
     count_like (deals cs l) = ap suc (counts_like l)
     count_like (turns w e v l) = ap suc (counts_like l)
 
-    counts_like : {ps : R.Places} {qs : Plays} → Likes x p ps qs → R.count_all ps ≡ sizes qs
+    counts_like : {ps : R.Places} {qs : Plays} → Likes d x p ps qs → R.count_all ps ≡ sizes qs
     counts_like nil = refl
     counts_like (both l k) = let a = count_like l in let b = counts_like k in omega (arith, a, b)
 
 pub size_is : (s : Sheet) → Sound s → size (game_as s) ≡ R.count (R.game s)
-size_is s h = sym (count_like s.raises s.public (game_like s h.ranks.most))
+size_is s h = sym (count_like s.ranks s.raises s.public (game_like s h.ranks.most))
 
 module _ (m : ℕ) (hs gs : List R.Sight) where
   mutual

@@ -54,12 +54,12 @@ end_phase b x (called c k h j) =
     let r = up_phase b x false b [] refl c k h in
     ap (λ l. phase b x (1 ∷ l)) (sym (append-nil (listed c (suc k)))) ∙ ap (λ f. moved b x f 1) r.1
 
-offers_in : (b : Player) (x : ℕ) (p : Bool) (o : Option ℕ) (f s : Line) → ValidIn x p o f s → offered b x (choices_in o f s) ≡ offered_by x (line_now o f s).bets
-offers_in b x p None f s v = ap (offered b x) (sym (append-nil (listed f.checks f.bets))) ∙ open_in b x false b [] refl f.checks f.bets v.0.0
-offers_in b x p (Some r) f s v = open_in b x true b (ended f.checks f.bets) (end_phase b x v.2) s.checks s.bets v.3.0
+offers_in : (b : Player) (d x : ℕ) (p : Bool) (o : Option ℕ) (f s : Line) → ValidIn d x p o f s → offered b x (choices_in o f s) ≡ offered_by x (line_now o f s).bets
+offers_in b d x p None f s v = ap (offered b x) (sym (append-nil (listed f.checks f.bets))) ∙ open_in b x false b [] refl f.checks f.bets v.0.0
+offers_in b d x p (Some r) f s v = open_in b x true b (ended f.checks f.bets) (end_phase b x v.2) s.checks s.bets v.3.0
 
-pub offers_are : (b : Player) (x : ℕ) (p : Bool) (z : Sight) → Valid x p z → offered b x (told z).choices ≡ offers_of x z
-offers_are b x p z v = offers_in b x p z.history.public z.history.first z.history.second v.history
+pub offers_are : (b : Player) (d x : ℕ) (p : Bool) (z : Sight) → Valid d x p z → offered b x (told z).choices ≡ offers_of x z
+offers_are b d x p z v = offers_in b d x p z.history.public z.history.first z.history.second v.history
 
 all_at : {P : Sight → Type 0} (l : List Sight) → All P l → (i : ℕ) (d : Sight) → i < length l → P (get_or l i d)
 all_at [] a i d h = absurd (omega arith)
@@ -71,9 +71,9 @@ pub choices_are : (s : Sheet) → Sound s → (w : Player) (i : ℕ) (d : Sight)
 choices_are s h w i d l =
     let L = sights_of w (game_as s) in
     let like = game_like s h.ranks.most in
-    let e : get_or (S.sights w (R.game s)) i nobody ≡ told (get_or L i d) = ap (λ m. get_or m i nobody) (sights_to s.raises s.public w like) ∙ get_or-map told L i d nobody l in
-    ap (λ (z : R.Sight). offered s.begins s.raises z.choices) e ∙ offers_are s.begins s.raises s.public (get_or L i d) (all_at L (sights_valid s.raises s.public w like) i d l)
+    let e : get_or (S.sights w (R.game s)) i nobody ≡ told (get_or L i d) = ap (λ m. get_or m i nobody) (sights_to s.ranks s.raises s.public w like) ∙ get_or-map told L i d nobody l in
+    ap (λ (z : R.Sight). offered s.begins s.raises z.choices) e ∙ offers_are s.begins s.ranks s.raises s.public (get_or L i d) (all_at L (sights_valid s.ranks s.raises s.public w like) i d l)
 
 -- a game has as many sights as are stored
 pub sights_many : (s : Sheet) → Sound s → (w : Player) → length (S.sights w (R.game s)) ≡ length (sights_of w (game_as s))
-sights_many s h w = ap (λ (l : List R.Sight). length l) (sights_to s.raises s.public w (game_like s h.ranks.most)) ∙ length-map (sights_of w (game_as s)) told
+sights_many s h w = ap (λ (l : List R.Sight). length l) (sights_to s.ranks s.raises s.public w (game_like s h.ranks.most)) ∙ length-map (sights_of w (game_as s)) told

@@ -54,7 +54,7 @@ ends_are k e f h s =
     let g : e.guest ≡ k - e.house = omega arith in
     ap Over (sym h ∙ (λ i. record { house = e.house; guest = g i }))
 
-module _ (x : ℕ) (p : Bool) (k m : ℕ) (hs gs : List Sight) (vh : All (Valid x p) hs) (vg : All (Valid x p) gs) where
+module _ (d x : ℕ) (p : Bool) (k m : ℕ) (hs gs : List Sight) (vh : All (Valid d x p) hs) (vg : All (Valid d x p) gs) where
   abbrev f : Sight → ℕ
   f z = place_of z hs
 
@@ -68,17 +68,17 @@ module _ (x : ℕ) (p : Bool) (k m : ℕ) (hs gs : List Sight) (vh : All (Valid 
   trees_of = S.numbered_all m (map told hs) (map told gs)
 
   mutual
-    pub places_are : {q : R.Place} {r : Play} → Like x p q r → places (tree_of q) ≡ size r
+    pub places_are : {q : R.Place} {r : Play} → Like d x p q r → places (tree_of q) ≡ size r
     places_are (ends e) = refl
     places_are (deals cs l) = ap suc (all_are l)
     places_are (turns Ours e v l) = ap suc (all_are l)
     places_are (turns Theirs e v l) = ap suc (all_are l)
 
-    all_are : {ps : R.Places} {qs : Plays} → Likes x p ps qs → places_all (trees_of ps) ≡ sizes qs
+    all_are : {ps : R.Places} {qs : Plays} → Likes d x p ps qs → places_all (trees_of ps) ≡ sizes qs
     all_are nil = refl
     all_are (both l j) = let a = places_are l in let b = all_are j in omega (arith, a, b)
 
-  sized : (ns : List Node) (i : ℕ) (pl : Place) {ps : R.Places} {qs : Plays} → Likes x p ps qs → Stands ns i pl (suc (sizes qs)) → Stands ns i pl (suc (places_all (trees_of ps)))
+  sized : (ns : List Node) (i : ℕ) (pl : Place) {ps : R.Places} {qs : Plays} → Likes d x p ps qs → Stands ns i pl (suc (sizes qs)) → Stands ns i pl (suc (places_all (trees_of ps)))
   sized ns i pl l st = let P : ℕ → Type 0 = λ n. Stands ns i pl (suc n) in subst P (sym (all_are l)) st
 
   placed : (ns : List Node) (i n : ℕ) (a b : Place) → a ≡ b → Stands ns i a n → Stands ns i b n
@@ -98,7 +98,7 @@ module _ (x : ℕ) (p : Bool) (k m : ℕ) (hs gs : List Sight) (vh : All (Valid 
   AllSums ps = (e : Ends) → SomeHasEnd e ps → e.house + e.guest ≡ k
 
   mutual
-    pub rep_of : {q : R.Place} {r : Play} → Like x p q r → Sums q → (ns rest : List Node) (i c : ℕ) → drop i ns ≡ flat f g c r ++ rest → Rep k m ns i (tree_of q)
+    pub rep_of : {q : R.Place} {r : Play} → Like d x p q r → Sums q → (ns rest : List Node) (i c : ℕ) → drop i ns ≡ flat f g c r ++ rest → Rep k m ns i (tree_of q)
     rep_of (ends {e = a} {f = b} h) s ns rest i c e = placed ns i 1 (Over b) (Over (ends_of k a.house)) (ends_are k a b h (s a here)) (stands ns i (Over b) c 1 rest e)
     rep_of (deals cs {qs = qs} l) s ns rest i c e = (
       total cs,
@@ -108,7 +108,7 @@ module _ (x : ℕ) (p : Bool) (k m : ℕ) (hs gs : List Sight) (vh : All (Valid 
       ),
     )
     rep_of (turns Ours {s = y} {z = z} {qs = qs} h v l) s ns rest i c e =
-        let at : House z (f z) ≡ House z (S.place y (map told hs)) = ap (House z) (sym (ap (λ u. S.place u (map told hs)) h ∙ place_to x p z hs v vh)) in (
+        let at : House z (f z) ≡ House z (S.place y (map told hs)) = ap (House z) (sym (ap (λ u. S.place u (map told hs)) h ∙ place_to d x p z hs v vh)) in (
           z,
           (
             sized ns i (House z (S.place y (map told hs))) l (placed ns i _ (House z (f z)) _ at (stands ns i (House z (f z)) c (suc (sizes qs)) (flats f g [] qs ++ rest) e)),
@@ -116,7 +116,7 @@ module _ (x : ℕ) (p : Bool) (k m : ℕ) (hs gs : List Sight) (vh : All (Valid 
           ),
         )
     rep_of (turns Theirs {s = y} {z = z} {qs = qs} h v l) s ns rest i c e =
-        let at : Guest z (g z) ≡ Guest z (S.place y (map told gs)) = ap (Guest z) (sym (ap (λ u. S.place u (map told gs)) h ∙ place_to x p z gs v vg)) in (
+        let at : Guest z (g z) ≡ Guest z (S.place y (map told gs)) = ap (Guest z) (sym (ap (λ u. S.place u (map told gs)) h ∙ place_to d x p z gs v vg)) in (
           z,
           (
             sized ns i (Guest z (S.place y (map told gs))) l (placed ns i _ (Guest z (g z)) _ at (stands ns i (Guest z (g z)) c (suc (sizes qs)) (flats f g [] qs ++ rest) e)),
@@ -124,7 +124,7 @@ module _ (x : ℕ) (p : Bool) (k m : ℕ) (hs gs : List Sight) (vh : All (Valid 
           ),
         )
 
-    reps_of : {ps : R.Places} {qs : Plays} → Likes x p ps qs → AllSums ps → (ns rest : List Node) (i : ℕ) (cs : List ℕ) → drop i ns ≡ flats f g cs qs ++ rest → Reps k m ns i (trees_of ps)
+    reps_of : {ps : R.Places} {qs : Plays} → Likes d x p ps qs → AllSums ps → (ns rest : List Node) (i : ℕ) (cs : List ℕ) → drop i ns ≡ flats f g cs qs ++ rest → Reps k m ns i (trees_of ps)
     reps_of nil s ns rest i cs e = tt
     reps_of (both {q = q} {r = r} {qs = qs} l j) s ns rest i cs e =
         let split = e ∙ append_assoc (flat f g (first_of cs) r) (flats f g (rest_of cs) qs) rest in
@@ -133,7 +133,7 @@ module _ (x : ℕ) (p : Bool) (k m : ℕ) (hs gs : List Sight) (vh : All (Valid 
           reps_of j (λ a h. s a (in_rest h)) ns rest (i + places (tree_of q)) (rest_of cs) (past_at ns (flat f g (first_of cs) r) (flats f g (rest_of cs) qs ++ rest) i (places (tree_of q)) lp split),
         )
 
-    weighed_of : {ps : R.Places} {qs : Plays} → Likes x p ps qs → AllSums ps → (ns rest : List Node) (i n : ℕ) (cs : List ℕ) → drop i ns ≡ flats f g cs qs ++ rest → Weighed k m n ns i (weighed m n cs) (trees_of ps)
+    weighed_of : {ps : R.Places} {qs : Plays} → Likes d x p ps qs → AllSums ps → (ns rest : List Node) (i n : ℕ) (cs : List ℕ) → drop i ns ≡ flats f g cs qs ++ rest → Weighed k m n ns i (weighed m n cs) (trees_of ps)
     weighed_of nil s ns rest i n cs e = tt
     weighed_of (both {q = q} {r = r} {ps = ps} {qs = qs} l j) s ns rest i n cs e =
         let split = e ∙ append_assoc (flat f g (first_of cs) r) (flats f g (rest_of cs) qs) rest in

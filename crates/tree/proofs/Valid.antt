@@ -21,14 +21,14 @@ pub data Ended (x : ℕ) : Line → Type 0 where
   both_checked : Ended x (line_of 2 0)
   called : (c k : ℕ) → c ≤ 1 → suc k ≤ x + 1 → Ended x (line_of c (suc k))
 
--- with a public card only in games that have one
-abbrev pub ValidIn : ℕ → Bool → Option ℕ → Line → Line → Type 0
-ValidIn x p None f s = Going x f × (s ≡ line_of 0 0)
-ValidIn x p (Some r) f s = (p ≡ true) × (r < 13) × Ended x f × Going x s
+-- with a public card only in games that have one, of d ranks
+abbrev pub ValidIn : ℕ → ℕ → Bool → Option ℕ → Line → Line → Type 0
+ValidIn d x p None f s = Going x f × (s ≡ line_of 0 0)
+ValidIn d x p (Some r) f s = (p ≡ true) × (r < d) × Ended x f × Going x s
 
-pub record Valid (x : ℕ) (p : Bool) (z : Sight) : Type 0 where
+pub record Valid (d x : ℕ) (p : Bool) (z : Sight) : Type 0 where
   pub own : z.own < 13
-  pub history : ValidIn x p z.history.public z.history.first z.history.second
+  pub history : ValidIn d x p z.history.public z.history.first z.history.second
 
 -- reading the lines back from the choices: in the first round, or in the second after the first
 data Read : Type 0 where
@@ -97,22 +97,22 @@ at4 (two f g c k) = k
 line_same : (a b : Line) → a.checks ≡ b.checks → a.bets ≡ b.bets → a ≡ b
 line_same a b p q = λ i. record { checks = p i; bets = q i }
 
-same_lines : (x : ℕ) (p : Bool) (o : Option ℕ) (f s f' s' : Line) → ValidIn x p o f s → ValidIn x p o f' s' → choices_in o f s ≡ choices_in o f' s' → (f ≡ f') × (s ≡ s')
-same_lines x p None f s f' s' (v, e) (w, d) h =
+same_lines : (d x : ℕ) (p : Bool) (o : Option ℕ) (f s f' s' : Line) → ValidIn d x p o f s → ValidIn d x p o f' s' → choices_in o f s ≡ choices_in o f' s' → (f ≡ f') × (s ≡ s')
+same_lines d x p None f s f' s' (v, e) (w, g) h =
     let r = sym (first_read f.checks f.bets v.0) ∙ ap reads h ∙ first_read f'.checks f'.bets w.0 in
-    (line_same f f' (ap at1 r) (ap at2 r), e ∙ sym d)
-same_lines x p (Some r) f s f' s' (_, _, v, u) (_, _, w, t) h =
+    (line_same f f' (ap at1 r) (ap at2 r), e ∙ sym g)
+same_lines d x p (Some r) f s f' s' (_, _, v, u) (_, _, w, t) h =
     let q = sym (second_read _ _ s.checks s.bets _ (end_read v)) ∙ ap reads h ∙ second_read _ _ s'.checks s'.bets _ (end_read w) in
     (line_same f f' (ap at1 q) (ap at2 q), line_same s s' (ap at3 q) (ap at4 q))
 
-pub told_same : (x : ℕ) (p : Bool) (a b : Sight) → Valid x p a → Valid x p b → told a ≡ told b → a ≡ b
-told_same x p a b v w e =
+pub told_same : (d x : ℕ) (p : Bool) (a b : Sight) → Valid d x p a → Valid d x p b → told a ≡ told b → a ≡ b
+told_same d x p a b v w e =
     let o : a.own ≡ b.own = ap (λ (z : R.Sight). z.own) e in
     let q : a.history.public ≡ b.history.public = ap (λ (z : R.Sight). z.public) e in
-    let P : Option ℕ → Type 0 = λ u. ValidIn x p u b.history.first b.history.second in
+    let P : Option ℕ → Type 0 = λ u. ValidIn d x p u b.history.first b.history.second in
     let h : choices_in a.history.public a.history.first a.history.second ≡ choices_in a.history.public b.history.first b.history.second =
     ap (λ (z : R.Sight). z.choices) e ∙ ap (λ u. choices_in u b.history.first b.history.second) (sym q) in
-    let l = same_lines x p a.history.public a.history.first a.history.second b.history.first b.history.second v.history (subst P (sym q) w.history) h in
+    let l = same_lines d x p a.history.public a.history.first a.history.second b.history.first b.history.second v.history (subst P (sym q) w.history) h in
     let lf = l.0 in
     let ls = l.1 in
     λ i. record { own = o i; history = record { first = lf i; public = q i; second = ls i } }
@@ -124,8 +124,8 @@ tests_agree false true f g = g refl
 tests_agree false false f g = refl
 
 -- the test on stored sights is the test on what they tell
-pub apart : (x : ℕ) (p : Bool) (a b : Sight) → Valid x p a → Valid x p b → same_stored_sight a b ≡ S.same_sight (told a) (told b)
-apart x p a b v w =
+pub apart : (d x : ℕ) (p : Bool) (a b : Sight) → Valid d x p a → Valid d x p b → same_stored_sight a b ≡ S.same_sight (told a) (told b)
+apart d x p a b v w =
     tests_agree (same_stored_sight a b) (S.same_sight (told a) (told b))
     (λ e. ap (λ z. S.same_sight (told a) (told z)) (sym (sight_same a b e)) ∙ sight_refl (told a))
-    (λ e. ap (same_stored_sight a) (sym (told_same x p a b v w (sight_eq (told a) (told b) e))) ∙ sight_itself a)
+    (λ e. ap (same_stored_sight a) (sym (told_same d x p a b v w (sight_eq (told a) (told b) e))) ∙ sight_itself a)

@@ -840,8 +840,10 @@ fn index<const N: usize>(nodes: &mut [Node], house: &mut [Sight], guest: &mut [S
     number(nodes, &ours, &theirs);
 }
 
-// The slots of all sights, and of those of a first round.
+// The slots of all sights, of those of games with three ranks at the most, and of those of a first round.
 const SLOTS: usize = 40950;
+
+const FEW_SLOTS: usize = 11700;
 
 const FIRST_SLOTS: usize = 195;
 
@@ -857,7 +859,11 @@ fn fill(game: Game, nodes: &mut [Node], house: &mut [Sight], guest: &mut [Sight]
 {
     written(game, nodes);
     if game.sheet.public {
-        index::<SLOTS>(nodes, house, guest);
+        if game.sheet.ranks <= 3 {
+            index::<FEW_SLOTS>(nodes, house, guest);
+        } else {
+            index::<SLOTS>(nodes, house, guest);
+        }
     } else {
         index::<FIRST_SLOTS>(nodes, house, guest);
     }
