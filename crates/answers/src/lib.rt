@@ -37,6 +37,7 @@ use worst::Entry;
 pub const ROOM: u32 = 4096;
 
 // Why a file or a hand is turned away.
+// Kept: `number` and `place` are what docs/RULES.md lists and is printed of a refusal.
 #[derive(Clone, Copy)]
 pub enum Refusal {
     OfSheet(rules::Refusal),
@@ -112,7 +113,7 @@ impl fmt::Display for Refusal {
 }
 
 // Why there is no answer: the file is refused, or memory is wanting.
-// Kept: plans has the same of its own refusals; one type for both would stand there, where no conversion of this crate's can.
+// Kept: beside the `Fault` of plans, since the conversions of this crate's refusals must stand with a type of this crate.
 #[derive(Clone, Copy)]
 pub enum Fault {
     Refused(Refusal),
@@ -229,7 +230,7 @@ impl fmt::Display for Kept {
 }
 
 // What the reckoning program has to say of a file.
-// Kept: a refusal is one of the three texts that are printed; a Result could have no Display of its own.
+// Kept: a refusal is one of the answers of which the definitions of the text and of the promises speak (`reckoned`).
 #[derive(Clone, Copy)]
 pub enum Answer {
     Refused(Refusal),
@@ -338,11 +339,7 @@ impl Seated<'_> {
     fn words(&self) -> u32
         ensures { result ≡ word_count self.now.admitted.opening.sheet self.now.who }
     {
-        let sizes = self.admitted.opening.sizes;
-        match self.who {
-            Player::House => sizes.house.words,
-            Player::Guest => sizes.guest.words,
-        }
+        self.admitted.opening.sizes.chair(self.who).words
     }
 
     // What a plan of the player keeps.
@@ -384,6 +381,7 @@ impl Grown {
         let mut house = vec![in heap; Sight::default(); o.sizes.house.sights as usize]?;
         let mut guest = vec![in heap; Sight::default(); o.sizes.guest.sights as usize]?;
         stages.stage(Stage::Building);
+        // it cannot be refused, since the memory has the tree's size
         let _ = tree::build(o.sheet, &mut nodes, &mut house, &mut guest);
         stages.stage(Stage::Built);
         Ok(Grown {
@@ -644,6 +642,7 @@ pub fn play(heap: Global, input: &[u8]) -> Result<String, AllocError>
 }
 
 // The bytes of a plan for the player in this chair, for the rule sheet and m of a file, after at most `rounds` rounds. No program calls it yet.
+// Kept: six parameters, each of which the caller has apart from the others.
 pub fn propose<P: Progress>(
     heap: Global,
     progress: &P,

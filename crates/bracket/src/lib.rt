@@ -65,6 +65,7 @@ impl Wide {
     }
 
     // Whether two numbers are equal: both halves are.
+    // Kept beside the derived `==`, which says that the halves are equal; this says it of the values.
     pub fn same(self, other: Wide) -> bool
         ensures { result ≡ (value_of self == value_of other) }
     {

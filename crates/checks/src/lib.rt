@@ -21,6 +21,7 @@ mod tests {
     }
 
     // The number and the place of a refusal, or 0 and 0.
+    // Kept: a pair and no Option, since what these tests compare with is to stay.
     fn refusal(answer: Result<Sizes, worst::Refusal>) -> (u8, usize) {
         match answer {
             Ok(_) => (0, 0),

@@ -22,6 +22,7 @@ use tree::{Kids, Node, Place};
 
 // Why a hand is turned away: a word is too high, or there are too few; a choice is not there, or there are too few. With the
 // index of the word or choice, or their number.
+// Kept: `number` and `place` are what docs/RULES.md lists and is printed of a refusal.
 #[derive(Clone, Copy)]
 pub enum Refusal {
     HighWord(usize),
@@ -66,7 +67,7 @@ pub struct Game<'a> {
 }
 
 // Where the words of a hand come from.
-// Kept: (d) an Iterator's contract has steps and no list of what is left, so `play` would ask its callers for a proof of the list.
+// Kept: an Iterator's contract has steps and no list of what is left, so `play` would ask its callers for a proof of the list.
 pub trait Words {
     // The words that are left
     ghost rest: { Self → List ℕ };
@@ -192,7 +193,7 @@ impl Game<'_> {
             (k n : ℕ) (c counts : ℕ → ℕ) (tree : Tree) → Laid k g.m n c counts g.rows.now g.nodes.now 0 tree →
             Ended k (played g.m (plan_of g.rows.now c) tree choices.now (W.rest words)) result }
     {
-        // Kept: (d) the loop goes by the tree, and the counts are for the refusals.
+        // Kept: the loop goes by the tree, and the counts are for the refusals.
         let mut at = 0;
         let mut made = 0;
         let mut used = 0;

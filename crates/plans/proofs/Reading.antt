@@ -51,10 +51,6 @@ unfolding total
 bytes_more x i zs d h =
     let e : 4 * total (counts x (drop i zs)) ≡ 4 * (offers_of x (get_or zs i d) + total (counts x (drop (i + 1) zs))) = at_drop_more (bytes_of x) zs i d h in omega (arith, e)
 
-pub bytes_none : (x i : ℕ) (zs : List Sight) → length zs ≤ i → bytes_of x (drop i zs) ≡ 0
-unfolding total
-bytes_none x i zs h = at_drop_all (bytes_of x) zs i h
-
 -- i sights are read, their rows have the weights that they should, and these bytes are left
 pub record Left (x : ℕ) (zs : List Sight) (m : ℕ) (bytes : List ℕ) (i : ℕ) (left : List ℕ) (rows : List Row) : Type 0 where
   pub whole : length bytes ≡ bytes_of x zs

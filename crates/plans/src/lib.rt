@@ -26,6 +26,7 @@ pub struct Row {
 }
 
 // Why there is no plan.
+// Kept: `number` and `place` are what docs/RULES.md lists and is printed of a refusal.
 #[derive(Clone, Copy)]
 pub enum Refusal {
     // m is too small or too large
@@ -69,6 +70,7 @@ impl Refusal {
 }
 
 // A plan is refused, or there is no memory for it.
+// Kept: the crate that reads files has the same of its own refusals, and its conversions must stand with a type of its own.
 #[derive(Clone, Copy)]
 pub enum Fault {
     Refused(Refusal),
@@ -92,6 +94,7 @@ impl<T: Drop> From<alloc::AllocFailed<T>> for Fault {
 }
 
 // The number that begins at a byte.
+// Kept: four indices and no chunk, since the four bytes are there and no test is wanted.
 fn number_at(bytes: &[u8], at: usize) -> u32
     requires { at + 4 ≤ length bytes.now }
     ensures { result ≡ slice_index (numbers (drop at bytes.now)) 0 }
@@ -103,10 +106,8 @@ fn number_at(bytes: &[u8], at: usize) -> u32
 pub fn read_base(bytes: &[u8]) -> Option<u32>
     ensures { result ≡ front (numbers bytes.now) }
 {
-    let [a, b, c, d, ..] = bytes else {
-        return None;
-    };
-    Some(u32::from_le_bytes([*a, *b, *c, *d]))
+    let word = bytes.first_chunk()?;
+    Some(u32::from_le_bytes(*word))
 }
 
 // The value, where so many divide it.
@@ -143,6 +144,7 @@ pub fn check_base(sheet: Sheet, m: u32) -> Result<u32, Refusal>
 }
 
 // The product, where it is below 2^62.
+// Kept: a division and no checked product, since the project asks for the bound itself.
 fn times(p: u64, m: u32) -> Option<u64>
     requires { 0 < m }
     ensures { result ≡ pick (nat_lt (p * m) (2 ^ 62)) (Some (p * m)) None }
@@ -229,6 +231,7 @@ pub fn read_plan(
 }
 
 // The weight by which a deal or a choice of the house leads to its tree at `at`, the one after `k` others.
+// Kept: nodes, rows and m are no struct here, since `worst` and `hands` hold them in structs of their own, with what each asks of them.
 pub fn weight(nodes: &[Node], rows: &[Row], m: u32, place: Place, at: usize, k: usize) -> u64
     requires { Weighable nodes.now rows.now place at k }
     ensures { result ≡ weight_at nodes.now rows.now m place at k }

@@ -8,7 +8,6 @@ use answers::Fault;
 use anyhow::anyhow;
 use rules::{Player, Sheet};
 use search::{Game, Progress};
-use std::alloc::Global;
 use std::io::{Read, Write};
 use std::str::FromStr;
 use std::{env, fs, io};
@@ -75,22 +74,14 @@ fn base(sheet: Sheet, sizes: Sizes, chair: Player, bytes: &[u8]) -> Result<u32, 
         return Err(plans::Refusal::Base.into());
     };
     let m = plans::check_base(sheet, m)?;
-    let words = match chair {
-        Player::House => sizes.house.words,
-        Player::Guest => sizes.guest.words,
-    };
-    plans::check_size(sizes.table, m, words)?;
+    plans::check_size(sizes.table, m, sizes.chair(chair).words)?;
     Ok(m)
 }
 
 // The bytes of a plan for the player in this chair.
-fn plan(
-    rt: &HostRuntime,
-    heap: Global,
-    chair: Player,
-    rounds: u32,
-    bytes: &[u8],
-) -> Result<Vec<u8>, Fault> {
+// Kept: beside `answers::propose`, which refuses a plan of the guest also where a file with it would be refused with 6.
+fn plan(rt: &HostRuntime, chair: Player, rounds: u32, bytes: &[u8]) -> Result<Vec<u8>, Fault> {
+    let heap = rt.alloc();
     let (front, past) = bytes.split_at(bytes.len().min(9));
     let sheet = rules::read(front)?;
     let mut nodes = vec![in heap; Node::default(); ROOM]?;
@@ -120,19 +111,13 @@ fn plan(
 }
 
 // The bytes that are asked for.
-fn ordered(
-    rt: &HostRuntime,
-    heap: Global,
-    order: Order,
-    rounds: u32,
-    bytes: &[u8],
-) -> Result<Vec<u8>, Fault> {
+fn ordered(rt: &HostRuntime, order: Order, rounds: u32, bytes: &[u8]) -> Result<Vec<u8>, Fault> {
     match order {
-        Order::Plan(chair) => plan(rt, heap, chair, rounds, bytes),
+        Order::Plan(chair) => plan(rt, chair, rounds, bytes),
         Order::File => {
-            let house = plan(rt, heap, Player::House, rounds, bytes)?;
-            let guest = plan(rt, heap, Player::Guest, rounds, bytes)?;
-            let mut file = Vec::new(heap);
+            let house = plan(rt, Player::House, rounds, bytes)?;
+            let guest = plan(rt, Player::Guest, rounds, bytes)?;
+            let mut file = Vec::new(rt.alloc());
             // the rule sheet and m
             file.extend_from_slice(&bytes[..bytes.len().min(13)])?;
             file.extend_from_slice(house.as_slice())?;
@@ -143,12 +128,12 @@ fn ordered(
 }
 
 // The bytes of the named file, or of standard input.
-// Kept: three programs have this function; in a library it could promise nothing of the bytes, and it is no plainer there.
-fn input(rt: &HostRuntime, heap: Global, path: Option<String>) -> io::Result<Vec<u8>> {
+// Kept: three programs have this function: in a library it could promise nothing of what is read.
+fn input(rt: &HostRuntime, path: Option<String>) -> io::Result<Vec<u8>> {
     match path {
         Some(path) => fs::read(rt, path),
         None => {
-            let mut bytes = Vec::new(heap);
+            let mut bytes = Vec::new(rt.alloc());
             rt.stdin().read_to_end(&mut bytes)?;
             Ok(bytes)
         }
@@ -156,18 +141,12 @@ fn input(rt: &HostRuntime, heap: Global, path: Option<String>) -> io::Result<Vec
 }
 
 // Writes what is asked for, or says why it cannot be had.
-fn answer(
-    rt: &HostRuntime,
-    heap: Global,
-    order: Order,
-    rounds: u32,
-    path: Option<String>,
-) -> anyhow::Result<()> {
-    let Ok(bytes) = input(rt, heap, path) else {
+fn answer(rt: &HostRuntime, order: Order, rounds: u32, path: Option<String>) -> anyhow::Result<()> {
+    let Ok(bytes) = input(rt, path) else {
         eprintln!(rt; "the file cannot be read")?;
         return Err(anyhow!("no file"));
     };
-    match ordered(rt, heap, order, rounds, bytes.as_slice()) {
+    match ordered(rt, order, rounds, bytes.as_slice()) {
         Ok(out) => Ok(rt.stdout().write_all(out.as_slice())?),
         Err(Fault::Refused(e)) => {
             eprintln!(rt; "{e}")?;
@@ -181,7 +160,6 @@ fn answer(
 }
 
 fn main(rt: HostRuntime) -> anyhow::Result<()> {
-    let heap = rt.alloc();
     let mut args = env::args(&rt)?.skip(1);
     let Some(first) = args.next() else {
         rt.eprint(HELP)?;
@@ -194,7 +172,7 @@ fn main(rt: HostRuntime) -> anyhow::Result<()> {
         first.as_str().parse::<Order>(),
         args.next().map(|word| word.as_str().parse::<u32>()),
     ) {
-        return answer(&rt, heap, order, rounds, args.next());
+        return answer(&rt, order, rounds, args.next());
     }
     rt.eprint(HELP)?;
     Err(anyhow!("not understood"))

@@ -2,7 +2,6 @@
 
 #![tactic(auto)]
 
-use std::alloc::Global;
 use std::io::Read;
 use std::{env, fs, io};
 
@@ -18,12 +17,12 @@ A file that is turned away prints `refused NUMBER at PLACE`; docs/RULES.md lists
 ";
 
 // The bytes of the named file, or of standard input.
-// Kept: three programs have this function; in a library it could promise nothing of the bytes, and it is no plainer there.
-fn input(rt: &HostRuntime, heap: Global, path: Option<String>) -> io::Result<Vec<u8>> {
+// Kept: three programs have this function, and two the same `main`: in a library they could promise nothing of what is read and printed.
+fn input(rt: &HostRuntime, path: Option<String>) -> io::Result<Vec<u8>> {
     match path {
         Some(path) => fs::read(rt, path),
         None => {
-            let mut bytes = Vec::new(heap);
+            let mut bytes = Vec::new(rt.alloc());
             rt.stdin().read_to_end(&mut bytes)?;
             Ok(bytes)
         }
@@ -31,11 +30,10 @@ fn input(rt: &HostRuntime, heap: Global, path: Option<String>) -> io::Result<Vec
 }
 
 fn main(rt: HostRuntime) -> io::Result<()> {
-    let heap = rt.alloc();
     let path = env::args(&rt)?.nth(1);
     if path.as_ref().is_some_and(|word| word.as_str() == "--help") {
         return rt.print(HELP);
     }
-    let bytes = input(&rt, heap, path)?;
-    rt.print(answers::reckon(heap, bytes.as_slice())?)
+    let bytes = input(&rt, path)?;
+    rt.print(answers::reckon(rt.alloc(), bytes.as_slice())?)
 }

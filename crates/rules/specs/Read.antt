@@ -1,6 +1,7 @@
 -- A rule sheet as nine bytes, and the refusals of one. Assumes nothing: these are definitions.
 use Rattle.std.specs.Prelude.{ℕ, ◌+◌, ◌*◌, Bool, true, false, ◌&&◌, List, length, Some, None, Ok, Err, Option, Result, ◌==◌, nat_le, slice_index}
 use Rattle.cards.specs.Game.{pick}
+use Rattle.rules.specs.declared.Player.{Player}
 use Rattle.rules.specs.declared.Player.TheVariants.{House, Guest}
 use Rattle.rules.specs.declared.Sheet.{Sheet}
 use Rattle.rules.specs.declared.Refusal.{Refusal}
@@ -29,6 +30,10 @@ abbrev pub holds : Bool → Refusal → Result Sheet Refusal → Result Sheet Re
 holds true e r = r
 holds false e r = Err e
 
+-- the player that a byte names
+abbrev pub player : ℕ → Player
+player b = pick (b == 0) House Guest
+
 -- what nine bytes within their ranges say
 abbrev pub sheet : List ℕ → Sheet
 sheet xs = record {
@@ -37,7 +42,7 @@ sheet xs = record {
   public = (slice_index xs 2 == 1);
   bets = record { ante = slice_index xs 3; first = slice_index xs 4; second = slice_index xs 5 };
   raises = slice_index xs 6;
-  begins = pick (slice_index xs 7 == 0) House Guest;
+  begins = player (slice_index xs 7);
   reserved = slice_index xs 8;
 }
 

@@ -2,8 +2,8 @@
 
 #![tactic(auto)]
 
-ghost use Rattle.std.specs.Prelude.{◌≡◌, IfOk};
-ghost use Rattle.rules.specs.Read.{read as read_as, ranged, number_of, place_of};
+ghost use Rattle.std.specs.Prelude.{◌≡◌, true, false, MatchResult, IfOk};
+ghost use Rattle.rules.specs.Read.{read as read_as, inside, player, ranged, number_of, place_of};
 ghost use Rattle.rules.specs.Play.{other};
 ghost use Rattle.rules.specs.Sound.{Sound};
 ghost use Rattle.rules.specs.Statements.{SheetsStand, WeightsSum, EndsSum, SmallRows};
@@ -25,6 +25,24 @@ impl Player {
         match self {
             Player::House => Player::Guest,
             Player::Guest => Player::House,
+        }
+    }
+}
+
+// A byte that names no player.
+#[derive(Clone, Copy)]
+pub struct NoPlayer;
+
+impl TryFrom<u8> for Player {
+    type Error = NoPlayer;
+
+    ghost try_from_gives = { λ b r. MatchResult r (λ w. (inside 0 1 b ≡ true) × (w ≡ player b)) (λ _. inside 0 1 b ≡ false) };
+
+    fn try_from(byte: u8) -> Result<Player, NoPlayer> {
+        match byte {
+            0 => Ok(Player::House),
+            1 => Ok(Player::Guest),
+            _ => Err(NoPlayer),
         }
     }
 }
@@ -58,7 +76,8 @@ pub struct Ends {
 }
 
 // Why bytes are no rule sheet.
-// Kept: `number` and `place` stand with the refusals of each crate and are no trait, since nothing is generic over them.
+// Kept: `number` and `place` are what docs/RULES.md lists and is printed of a refusal; each crate has its own and no trait of them, since
+// nothing is generic over refusals.
 #[derive(Clone, Copy)]
 pub enum Refusal {
     // there are so many bytes, and not nine
@@ -140,7 +159,7 @@ pub fn read(bytes: &[u8]) -> Result<Sheet, Refusal>
     let Some(raises) = within(*raises, 0, 3) else {
         return Err(Refusal::Range(6));
     };
-    let Some(begins) = within(*begins, 0, 1) else {
+    let Ok(begins) = Player::try_from(*begins) else {
         return Err(Refusal::Range(7));
     };
     let Some(reserved) = within(*reserved, 0, 0) else {
@@ -153,11 +172,6 @@ pub fn read(bytes: &[u8]) -> Result<Sheet, Refusal>
         ante,
         first,
         second,
-    };
-    let begins = if begins == 0 {
-        Player::House
-    } else {
-        Player::Guest
     };
     Ok(Sheet {
         ranks,

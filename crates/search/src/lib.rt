@@ -76,11 +76,7 @@ impl Choices {
     fn match_regrets(&mut self, offers: u8) {
         let mut all = 0.0;
         for choice in self.0.iter_mut().take(offers as usize) {
-            choice.regret = if choice.regret > 0.0 {
-                choice.regret
-            } else {
-                0.0
-            };
+            choice.regret = choice.regret.max(0.0);
             all += choice.regret;
         }
         for choice in self.0.iter_mut().take(offers as usize) {
@@ -122,6 +118,7 @@ struct Tree<'a> {
 }
 
 // The trees that stand one after the other among these places.
+// Kept: not `tree::Kids`, which asks that a tree lies there; a search goes over any memory.
 #[derive(Clone, Copy)]
 struct Trees<'a>(&'a [Node]);
 

@@ -43,6 +43,11 @@ chair_of s w = record { sights = length (sights w (game s)); words = word_count 
 abbrev pub sizes_of : Sheet → Sizes
 sizes_of s = record { places = count (game s); house = chair_of s House; guest = chair_of s Guest; table = 2 * purse s }
 
+-- of such sizes, the chair of a player
+abbrev pub chair_in : Sizes → Player → Chair
+chair_in z House = z.house
+chair_in z Guest = z.guest
+
 -- the places fit the memory for the tree; the sights of each player fit theirs
 abbrev pub fitted : Sizes → ℕ → ℕ → ℕ → Result Sizes Refusal
 fitted z nodes house guest =

@@ -16,7 +16,7 @@ ghost use Rattle.tree.specs.Slots.{slot_of, Ranged, Tabled, tabled_place, tabled
 ghost use Rattle.rules.specs.Sights.{sights};
 ghost use Rattle.rules.specs.Counts.{count_of_sights, word_count};
 ghost use Rattle.tree.specs.Told.{told, listed, ended, nth, offers_of};
-ghost use Rattle.tree.specs.Built.{number_of, refused_at, at_most, fitted, limited, admitted, sizes_of, Measured, Memory, Begins, nodes_of};
+ghost use Rattle.tree.specs.Built.{number_of, refused_at, at_most, fitted, limited, admitted, sizes_of, chair_in, Measured, Memory, Begins, nodes_of};
 ghost use Rattle.rules.specs.declared.Player.TheVariants.{House, Guest};
 
 mod deck;
@@ -322,6 +322,7 @@ impl Hand {
 }
 
 // What follows a round of betting.
+// Kept: a trait with a struct for each follower and no closure, since what follows is named in the clauses of the round.
 trait Follow {
     // What is written after this hand
     ghost then: { Self → Hand → Play };
@@ -367,6 +368,7 @@ impl<F: Follow + Copy> Betting<F> {
     }
 
     // The choices where there is nothing to call, with what follows a check.
+    // Kept: six parameters, since no two of them belong together more than any others.
     fn opens<C: Follow + Copy>(
         self,
         checks: C,
@@ -420,6 +422,7 @@ impl<F: Follow + Copy> Follow for Checked<F> {
 }
 
 // What a dealt card leads to.
+// Kept: a trait and no closure, for the same reason.
 trait Card {
     // What follows a card of this rank
     ghost after: { Self → ℕ → Play };
@@ -885,7 +888,20 @@ pub struct Sizes {
     pub table: u32,
 }
 
+impl Sizes {
+    // The chair of a player.
+    pub fn chair(self, who: Player) -> Chair
+        ensures { result ≡ chair_in self who }
+    {
+        match who {
+            Player::House => self.house,
+            Player::Guest => self.guest,
+        }
+    }
+}
+
 // Why a tree is not written.
+// Kept: `number` and `place` are what docs/RULES.md lists and is printed of a refusal.
 #[derive(Clone, Copy)]
 pub enum Refusal {
     // the memory for the tree is too short
@@ -943,6 +959,7 @@ pub fn measure(sheet: Sheet) -> Sizes
 }
 
 // The number, where it is at most so much.
+// Kept: an Option and no bool, for `let .. else`.
 pub fn at_most(n: u32, most: usize) -> Option<u32>
     ensures { result ≡ at_most n most }
 {

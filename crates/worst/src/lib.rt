@@ -30,6 +30,7 @@ pub struct Entry {
 
 impl Entry {
     // What a work row is lent with, and wiped with.
+    // Kept beside the derived `Default`: its clause says the value.
     pub fn blank() -> Entry
         ensures { result ≡ blank_entry }
     {
@@ -65,6 +66,7 @@ impl Grown {
 }
 
 // What is reckoned over: the tree, the plan, the number below which words of chance lie, and its powers.
+// Kept: an array of powers and no Vec, since this crate uses no heap.
 #[derive(Drop)]
 struct Game<'a> {
     nodes: &'a [Node],
@@ -275,6 +277,7 @@ pub fn worst(nodes: &[Node], rows: &[Row], m: u32, words: u32, work: &mut [Entry
 }
 
 // Why a tree is not reckoned: it is not written, or the work row is too short.
+// Kept: `number` and `place` are what docs/RULES.md lists and is printed of a refusal.
 #[derive(Clone, Copy)]
 pub enum Refusal {
     OfTree(tree::Refusal),
