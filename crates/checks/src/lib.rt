@@ -80,6 +80,7 @@ mod tests {
     }
 
     // The size in the first node after an attempt with so much memory for the small game's tree, and whether it was written.
+    // Kept: a pair, for the same reason.
     fn first_size(room: usize) -> (u32, bool) {
         let Ok(sheet) = rules::read(&SMALL) else {
             return (0, false);

@@ -5,6 +5,7 @@
 ghost use Rattle.std.specs.Prelude.{◌≤◌};
 
 // The copies left of each rank. The ranks in play come first, the others are not looked at.
+// Kept: an array with how many of it count and no Vec, since this crate uses no heap.
 #[derive(Clone, Copy)]
 pub struct Deck {
     copies: [u8; 13],

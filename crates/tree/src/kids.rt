@@ -16,6 +16,7 @@ pub struct Kids<'a> {
 
 impl<'a> Kids<'a> {
     // Over the trees of the place at `at`.
+    // Kept: that a tree lies there is a clause, here and where it is called, since each caller knows it from a struct of its own.
     pub fn of(nodes: &'a [Node], at: usize) -> Kids<'a>
         requires { ∥ SomeRoot nodes.now at ∥₁ }
         ensures nodes { result.nodes.now ≡ nodes.now }

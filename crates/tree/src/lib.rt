@@ -90,6 +90,7 @@ impl Sight {
 }
 
 // The choice so far back in a round that goes on.
+// Kept: a number, as of `Sight::choice`.
 fn listed_at(line: Line, back: usize) -> Option<u8>
     ensures { result ≡ nth (listed line.checks line.bets) back }
 {
@@ -105,6 +106,7 @@ fn listed_at(line: Line, back: usize) -> Option<u8>
 }
 
 // The choice so far back in a round that is over without a fold.
+// Kept: a number, as of `Sight::choice`.
 fn ended_at(line: Line, back: usize) -> Option<u8>
     ensures { result ≡ nth (ended line.checks line.bets) back }
 {
@@ -779,6 +781,7 @@ fn slot(z: Sight) -> usize
     ((public * 15 + second) * 13 + z.own as usize) * 15 + first
 }
 
+// Kept: that there are at most 65,536 nodes stands in the clauses from here to `fill`, since each takes them lent, alone or with others.
 // Notes each sight of this player once, in the order in which they are met. The table begins with zeros and then holds, for
 // each sight met, its number and one more.
 fn collect(nodes: &[Node], who: Player, sights: &mut [Sight], table: &mut [u32]) -> usize
