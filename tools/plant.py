@@ -5,19 +5,20 @@
 
 The bugs: a comparison turned, a constant moved by one, an operator exchanged, a field or variant exchanged for the next
 one of its type, a write or a call dropped, two arguments of one type exchanged, two neighbours of an array or of a
-struct exchanged, a condition negated, true for false, None for Some, a range that takes in its end. Contracts, types
-and comments are left as they are.
+struct exchanged, a condition negated, true for false, None for Some, a range that takes in its end or leaves it out.
+They are planted in each .rt file of the crate. Contracts (those of closures too), types, comments and tests are left
+as they are.
 
 A function's proof rests on its own body and on the contracts of what it calls, and `rt check` reports each function by
-itself. So a run has one bug in each function; functions that call each other count as one, and a bug in a constant of
-the crate has a run of its own. The runs are made in a copy of this repository, which has to be checked (rt check in the
-crate's folder first).
+itself. So a run has one bug in each function. A closure counts as a part of the function that it stands in, functions
+that call each other count as one, and a bug in a constant of the crate has a run of its own. The runs are made in a
+copy of this repository, which has to be checked (rt check in the crate's folder first).
 
 A bug is refused where its own function has an error in its proof or a need that is not proved; that the function calls
-one that is not proved does not count. The other bugs of the run are tried again without those: together, and where the
-crate is then not proved as a whole, each alone. A bug survives where the whole crate is proved with it. It is no
-program where the compiler turns it away: the compiler's line says which bug that was, and the run is made again without
-it. It has no answer where the check takes over half an hour or cannot tell.
+or stands on what is not proved does not count. The other bugs of the run are tried again without those: together, and
+where the crate is then not proved as a whole, each alone. A bug survives where the whole crate is proved with it. It is
+no program where the compiler turns it away: the compiler's line says which bug that was, and the run is made again
+without it. It has no answer where the check takes over half an hour or cannot tell.
 
 --list prints the bugs and tries none; --part takes each N-th one; --log keeps what the checker wrote. At the end there
 is a line for each survivor, and `CRATE: N planted, M refused, K survived, P no program`.
@@ -48,39 +49,89 @@ METHOD = {
 }
 WORD = {"true": "false", "false": "true"}
 
-# A bug stands in the lines first to last of a function; `unit` is the function, or those that call each other with it.
-Bug = collections.namedtuple("Bug", "number unit function first last old new")
-Body = collections.namedtuple("Body", "unit function first last")
+# A bug stands in the lines first to last of a file; `unit` is its function, or those that call each other with it.
+Bug = collections.namedtuple("Bug", "number unit function file first last old new")
+Body = collections.namedtuple("Body", "unit function file first last")
 
 
-def bodies(text, proofs):
-    """The functions of a source, each with the number of the first line of its body and of the line after its last."""
-    units = {folder.name[1:]: folder.name for folder in proofs.glob("+*")}
-    lines = text.splitlines()
-    owner = ""
-    for number, line in enumerate(lines):
-        if found := re.match(r"(?:pub )?(?:impl|trait)\b(?:<[^>]*>)? (.*) \{$", line):
-            # an impl of a trait is reported as the type and the trait in one word
-            kinds = [re.sub(r"<.*>|.*::", "", kind) for kind in found[1].split(" for ")]
-            owner = "".join(reversed(kinds)) + "::"
-        if found := re.match(r"( *)(?:pub )?fn (\w+)", line):
-            indent, name = found[1], (owner if found[1] else "") + found[2]
-            end = rf"({indent}|{indent[4:]})\}}"
-            last = next(i for i in range(number, len(lines)) if re.match(end, lines[i]))
-            opens = rf"{indent}(\).*)?\{{$"
-            heads = [number] if line.endswith("{") else [i for i in range(number, last) if re.match(opens, lines[i])]
-            # functions that call each other name their cycle
-            cycle = re.match(r" *#\[cycle\((\w+)\)\]$", lines[number - 1])
-            if heads:
-                yield Body(units.get(cycle[1] if cycle else name, name), name, heads[0] + 1, last)
+def sources(crate):
+    """The text of each .rt file of a crate, by its path below the crate's src."""
+    folder = HERE / "crates" / crate / "src"
+    return {str(path.relative_to(folder)): path.read_text() for path in sorted(folder.rglob("*.rt"))}
 
 
-def neighbours(texts):
-    """For each field and each variant the next ones of the same type in the same declaration."""
+def cycles(crate):
+    """The folders of proofs of functions that call each other, each by its name without the `+`, as names with `::`."""
+    proofs = HERE / "crates" / crate / "proofs"
+    found = {}
+    for folder in proofs.rglob("+*"):
+        *above, name = folder.relative_to(proofs).parts
+        found["::".join([*above, name[1:]])] = "::".join([*above, name])
+    return found
+
+
+def owner_of(own, head):
+    """How the check names an impl or a trait, by the impl's own parameters and the rest of its first line."""
+    own = {part.split(":")[0].removeprefix("const ") for part in parts(own or "")}
+    trait, _, kind = head.rpartition(" for ")
+    # the words of the type, then the trait without its path and with the words of its arguments
+    words = re.findall(r"'?[^\W_]+", kind.split(": ")[0] + " " + re.sub(r"^[\w:]*::", "", trait))
+    return "".join(word[0].upper() + word[1:] for word in words if word[0] != "'" and word not in own)
+
+
+def cycle_of(lines, number):
+    """The cycle that is named among the attributes of the function that begins in this line, if there is one."""
+    above = itertools.takewhile(lambda line: re.match(r" *(#\[|//)", line), reversed(lines[:number]))
+    return next((found[1] for line in above if (found := re.match(r" *#\[cycle\((\w+)\)\]$", line))), None)
+
+
+def body_of(lines, number):
+    """For a function that begins in this line and has code: the first line of its body and the line that closes it."""
+    indent = re.match(" *", lines[number])[0]
+    for at in range(number, len(lines)):
+        if re.match(rf"{indent}(\).*|.*\bfn .*)?\{{$", lines[at]):
+            return at + 1, next(i for i in range(at, len(lines)) if lines[i].startswith(indent + "}"))
+        if not lines[at] or lines[at].endswith("{}"):
+            return None
+    return None
+
+
+def bodies(crate):
+    """The functions of a crate that have code, each with the first line of its body and the line after its last."""
+    units = cycles(crate)
+    for file, text in sources(crate).items():
+        lines = text.split("#[cfg(test)]")[0].splitlines()
+        module = re.sub(r"^(lib|main)::$", "", file.removesuffix(".rt").replace("/", "::") + "::")
+        owner = ""
+        for number, line in enumerate(lines):
+            if found := re.match(r"(?:pub )?(?:impl|trait)\b(?:<((?:->|[^<>]|<[^<>]*>)*)>)? (.*) \{$", line):
+                owner = module + owner_of(found[1], found[2]) + "::"
+            if found := re.match(r"( *)(?:pub(?:\(\w+\))? )?(?:const )?fn (\w+)", line):
+                above = owner if found[1] else module
+                cycle, place = cycle_of(lines, number), body_of(lines, number)
+                # functions that call each other name their cycle; one that calls itself has a folder of its own name
+                unit = f"{module}+{cycle}" if cycle else above + found[2]
+                if place:
+                    yield Body(units.get(above + (cycle or found[2]), unit), above + found[2], file, *place)
+
+
+def code(lines, body):
+    """The numbers of the lines of a body that are code, and no comment, clause of a closure or ghost line."""
+    depth = 0
+    for number in range(body.first, body.last):
+        line = lines[number]
+        if depth or re.match(r" *(requires|ensures|ghost)\b", line):
+            depth += sum((sign in "([{") - (sign in ")]}") for sign in line)
+        elif not re.match(r" *(//|$)", line):
+            yield number
+
+
+def neighbours(own, others):
+    """For each field and variant the next ones of the same type in the same declaration; of others what is public."""
     after = collections.defaultdict(set)
-    for text in texts:
-        for kind, inside in re.findall(r"^(?:pub )?(struct|enum) .*?\{\n(.*?)^\}", text, re.M | re.S):
-            form = r"^ +(?:pub )?(\w+): (.*),$" if kind == "struct" else r"^ +(\w+)(.*),$"
+    for text, public in [*((text, "(?:pub )?") for text in own), *((text, "pub ") for text in others)]:
+        for kind, inside in re.findall(rf"^{public}(struct|enum) [^\n;]*\{{\n(.*?)^\}}", text, re.M | re.S):
+            form = rf"^ +{public}(\w+): (.*),$" if kind == "struct" else r"^ +(\w+)(.*),$"
             same = collections.defaultdict(list)
             for name, its_type in re.findall(form, inside, re.M):
                 same[its_type].append(name)
@@ -91,11 +142,12 @@ def neighbours(texts):
 
 
 def signatures(texts):
-    """For each function the types of its parameters, without self."""
-    found = {}
+    """For each name of a function the types of its parameters, without self: for each function that has this name."""
+    found = collections.defaultdict(list)
+    form = r"^ *(?:pub(?:\(\w+\))? )?(?:const )?fn (\w+)(?:<(?:->|[^<>]|<[^<>]*>)*>)?\((.*?)\) *(?:->|$|\{|;)"
     for text in texts:
-        for name, inside in re.findall(r"^ *(?:pub )?fn (\w+)(?:<[^>]*>)?\((.*?)\) *(?:->|$|\{)", text, re.M | re.S):
-            found[name] = [part.split(": ", 1)[1] for part in parts(inside) if ": " in part]
+        for name, inside in re.findall(form, text, re.M | re.S):
+            found[name].append([part.split(": ", 1)[1] for part in parts(inside) if ": " in part])
     return found
 
 
@@ -125,8 +177,8 @@ def signs(line):
     for found in re.finditer(r"(?<=\.)(\w+)(?=\()", line):
         if found[1] in METHOD:
             yield found, METHOD[found[1]]
-    for found in re.finditer(r"(?<=[\w\]])\.\.(?=\w)", line):
-        yield found, "..="
+    for found in re.finditer(r"(?<=[\w\]])\.\.(=?)(?=\w)", line):
+        yield found, ".." if found[1] else "..="
     for found in re.finditer(r"\bSome\([\w.*]+\)(?! =)", line):
         yield found, "None"
     for found in re.finditer(r"\b(if|while) (?!let )([^{]*(?:&&|\|\||!|\()[^{]*|[\w.]+)(?= \{)", line):
@@ -159,18 +211,34 @@ def enclosed(text):
 
 def swaps(line, types):
     """The line with two arguments of one type, or two neighbours in an array, exchanged."""
-    for found in re.finditer(r"\b(\w+)\(|\[", line):
+    for found in re.finditer(r"\b(\w+)(?:::<[^>]*>)?\(|\[", line):
         inside = enclosed(line[found.end():])
         args = parts(inside or "")
-        kinds = types.get(found[1], [])
+        rows = [row for row in types.get(found[1], []) if len(row) == len(args)]
         if not found[1]:
-            kinds = ["" if re.fullmatch(r"\*?[a-z]\w*", arg) else at for at, arg in enumerate(args)]
-        if len(kinds) != len(args) or ", ".join(args) != inside:
+            rows = [["" if re.fullmatch(r"\*?[a-z]\w*", arg) else at for at, arg in enumerate(args)]]
+        if ", ".join(args) != inside:
             continue
         for i, j in itertools.combinations(range(len(args)), 2):
-            if kinds[i] == kinds[j] and args[i] != args[j] and (found[1] or j == i + 1):
+            same = any(row[i] == row[j] for row in rows)
+            if same and args[i] != args[j] and (found[1] or j == i + 1):
                 other = args[:i] + [args[j]] + args[i + 1: j] + [args[i]] + args[j + 1:]
                 yield re.compile(re.escape(inside)).match(line, found.end()), ", ".join(other)
+
+
+def two_lines(lines, number, after):
+    """This line and the next with what they hold exchanged, if they are arguments or fields of a struct."""
+    pair = lines[number: number + 2]
+    indent = re.match(" *", pair[0])[0]
+    opens = next((text for text in reversed(lines[:number]) if text and not text.startswith(indent)), "")
+    if not opens.endswith("{"):
+        # the compiler says where the types of two arguments differ
+        plain = all(re.match(r" {8,}[&*]?[\w.]+( as \w+)?,$", text) for text in pair)
+        return f"{pair[1]}\n{pair[0]}" if plain else None
+    one, two = (re.match(rf"{indent}(\w+)(?:: (.+))?,$", text) for text in pair)
+    if one and two and (two[1] in after[one[1]] or one[1] in after[two[1]]):
+        return f"{indent}{one[1]}: {two[2] or two[1]},\n{indent}{two[1]}: {one[2] or one[1]},"
+    return None
 
 
 def dropped(lines, number):
@@ -192,42 +260,38 @@ def exchanged(lines, number, after, types):
     line = lines[number]
     for found, other in [*signs(line), *names(line, after), *swaps(line, types)]:
         yield number, line[: found.start()] + other + line[found.end():]
-    if all(re.match(r" {8,}[&*]?[\w.]+( as \w+)?,$", text) for text in lines[number: number + 2]):
-        # two arguments that stand below each other; the compiler says where their types differ
-        yield number + 1, lines[number + 1] + "\n" + line
+    pair = two_lines(lines, number, after)
+    if pair is not None:
+        yield number + 1, pair
     last = dropped(lines, number)
     if last is not None:
         yield last, re.match(" *", line)[0] + "{}"
 
 
 def bugs(crate):
-    """The bugs of a crate, in the order of its lines."""
-    below = re.search(rf"^{crate}:(.*)", (HERE / "crates.txt").read_text(), re.M)[1].split()
-    texts = [source_of(name).read_text() for name in below + [crate]]
-    own = texts[-1]
-    after, types = neighbours(texts), signatures(texts)
-    lines = own.splitlines()
-    places = [Body(f"const {i}", "const", i, i + 1) for i, line in enumerate(lines) if line.startswith("const ")]
-    places += bodies(own, HERE / "crates" / crate / "proofs")
+    """The bugs of a crate, in the order of its files and lines."""
+    stands_on = re.search(rf"^{crate}:(.*)", (HERE / "crates.txt").read_text(), re.M)[1].split()
+    own, others = sources(crate), [text for name in stands_on for text in sources(name).values()]
+    after, types = neighbours(own.values(), others), signatures([*others, *own.values()])
+    places = list(bodies(crate))
+    for file, text in own.items():
+        consts = [i for i, line in enumerate(text.splitlines()) if re.match(r"(pub )?const \w+:", line)]
+        places += [Body(f"const {file} {i}", "const", file, i, i + 1) for i in consts]
     count = 0
-    for body in sorted(places, key=lambda place: place.first):
-        seen = set()
-        for number in range(body.first, body.last):
-            if re.match(r" *(//|ghost |$)", lines[number]):
-                continue
+    for body in sorted(places, key=lambda place: (place.file, place.first)):
+        lines, seen = own[body.file].splitlines(), set()
+        for number in code(lines, body):
             for last, new in exchanged(lines, number, after, types):
-                if new != lines[number] and (number, new) not in seen:
+                old = "\n".join(lines[number: last + 1])
+                if new != old and (number, new) not in seen:
                     seen.add((number, new))
-                    yield Bug(count, body.unit, body.function, number, last, lines[number].strip(), new)
+                    yield Bug(count, body.unit, body.function, body.file, number, last, old, new)
                     count += 1
 
 
-def source_of(crate):
-    return next((HERE / "crates" / crate / "src").glob("*.rt"))
-
-
 def named(bug):
-    return f"{bug.number} {bug.function} line {bug.first + 1}: {bug.old} -> {bug.new.strip()}"
+    old, new = (" ".join(line.strip() for line in text.split("\n")) for text in (bug.old, bug.new))
+    return f"{bug.number} {bug.function} at {bug.file}:{bug.first + 1}: {old} -> {new}"
 
 
 class Trials:
@@ -235,19 +299,20 @@ class Trials:
 
     def __init__(self, crate, below, log):
         self.crate, self.log, self.runs = crate, log, 0
-        self.good = source_of(crate).read_text()
-        self.bodies = list(bodies(self.good, HERE / "crates" / crate / "proofs"))
+        self.good = sources(crate)
+        self.bodies = list(bodies(crate))
         self.root = pathlib.Path(below) / "copy"
         shutil.copytree(HERE, self.root, symlinks=True, ignore=shutil.ignore_patterns("bench", "must-fail", ".git"))
-        self.source = self.root / source_of(crate).relative_to(HERE)
 
     def run(self, batch):
         """What the checker writes with these bugs in place."""
-        lines = self.good.splitlines()
-        for bug in batch:
-            new = bug.new.split("\n")
-            lines[bug.first: bug.last + 1] = new + [""] * (bug.last + 1 - bug.first - len(new))
-        self.source.write_text("\n".join(lines) + "\n")
+        for file, text in self.good.items():
+            lines = text.splitlines()
+            for bug in batch:
+                if bug.file == file:
+                    new = bug.new.split("\n")
+                    lines[bug.first: bug.last + 1] = new + [""] * (bug.last + 1 - bug.first - len(new))
+            (self.root / "crates" / self.crate / "src" / file).write_text("\n".join(lines) + "\n")
         settings = {"cwd": self.root / "crates" / self.crate, "capture_output": True, "text": True}
         try:
             done = subprocess.run(["rt", "check"], timeout=1800, **settings)
@@ -259,17 +324,26 @@ class Trials:
             pathlib.Path(self.log, f"{self.crate}-{self.runs}").write_text("\n".join(map(named, batch)) + "\n\n" + out)
         return out
 
+    def units_of(self, name):
+        """The units of a function, by its name in the report; a closure belongs to the function that it stands in."""
+        name = re.sub(r"(^|::)fn::(.*?)::\w+(\+.*)?$", r"\1\2", name)
+        return {body.unit for body in self.bodies if name in (body.function, body.unit)}
+
     def troubled(self, out):
         """The units with an error in their own proof or a need of their own that is not proved."""
-        found = set(re.findall(r"^\./proofs/(\S+)/\w+\.antt:\d+:\d+: error", out, re.M))
-        found = {unit.replace("/", "::") for unit in found}
-        for function in re.findall(rf"^fn {self.crate}::(\S+): (?:not proved|no proof: expected answers)", out, re.M):
-            found |= {body.unit for body in self.bodies if body.function == function}
-        return found
+        folders = re.findall(r"^\./proofs/(\S+)/\w+\.antt:\d+:\d+: error", out, re.M)
+        # a function that is not proved since it stands on another's proof has no trouble of its own
+        own = rf"^fn {self.crate}::(\S+): (?:not proved$|no proof: expected answers)"
+        names = {folder.replace("/", "::") for folder in folders} | set(re.findall(own, out, re.M))
+        return set().union(*map(self.units_of, names))
 
-    def unit_at(self, line):
-        """The unit of the function whose head or body has this line: the first whose body ends after it."""
-        return next((body.unit for body in self.bodies if line <= body.last + 1), None)
+    def unit_at(self, file, line):
+        """The unit of the function whose head or body has this line: the first of the file whose body ends after it."""
+        return next((body.unit for body in self.bodies if body.file == file and line <= body.last + 1), None)
+
+    def blamed(self, out):
+        """The units of the functions in which the compiler has an error."""
+        return {self.unit_at(file, int(line)) for file, line in re.findall(r"\bsrc/(\S+\.rt):(\d+):\d+: error", out)}
 
     def verdict(self, out):
         """The last verdict, if the checker came to this crate: those on the crates below it stand before."""
@@ -280,7 +354,7 @@ class Trials:
         out = self.run([bug])
         if answer := {"proved": "survived", "not-proved": "refused"}.get(self.verdict(out)):
             return answer
-        return "no program" if re.search(r"\.rt:\d+:\d+: error", out) else "no answer"
+        return "no program" if self.blamed(out) else "no answer"
 
     def judge(self, batch):
         """The answer for each bug of a batch, as pairs."""
@@ -290,7 +364,7 @@ class Trials:
         if self.verdict(out) == "proved":
             return [(bug, "survived") for bug in batch]
         if self.verdict(out) is None:
-            blamed = {self.unit_at(int(line)) for line in re.findall(r"\.rt:(\d+):\d+: error", out)}
+            blamed = self.blamed(out)
             bad = [bug for bug in batch if bug.unit in blamed]
             rest = [bug for bug in batch if bug.unit not in blamed]
             if not bad:
