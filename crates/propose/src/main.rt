@@ -67,6 +67,7 @@ impl Progress for Lines<'_> {
 }
 
 // The number m after the rule sheet, checked.
+// Kept: beside `open_chair` of crate `answers`, for the reason at `plan`.
 fn base(sheet: Sheet, sizes: Sizes, chair: Player, bytes: &[u8]) -> Result<u32, Fault>
     requires { Sound sheet }
 {
