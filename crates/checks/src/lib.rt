@@ -1,11 +1,13 @@
 // Tests of library calls with chosen memory: a tree or its sights that do not fit, a work row that is too short, a tree that is too
-// large; and that a refusal touches nothing.
+// large; that a refusal touches nothing; and a search over a row of places that is no tree of a rule sheet.
 
 #![tactic(auto)]
 
 #[cfg(test)]
 mod tests {
-    use rules::Ends;
+    use rules::{Ends, Player};
+    use search::{Game, Progress};
+    use std::alloc::{AllocError, Global};
     use std::test::Fail;
     use tree::{History, Line, Node, Place, Sight, Sizes};
 
@@ -100,5 +102,40 @@ mod tests {
     fn untouched(rt: HostRuntime) {
         assert_eq!(rt; first_size(57), (7, false));
         assert_eq!(rt; first_size(58), (58, true));
+    }
+
+    // Takes no note of what it is told.
+    #[derive(Clone, Copy)]
+    struct Silent;
+
+    impl Progress for Silent {
+        fn stage(&self, _settled: usize, _sights: usize) {}
+    }
+
+    // How many rows a search proposes for one sight over a row of so many deals, each of which holds all that follow.
+    fn rows_over_chain(heap: Global, places: u32) -> Result<usize, AllocError> {
+        let mut nodes = Vec::new(heap);
+        for i in 0..places {
+            nodes.push(Node {
+                place: Place::Deal(1),
+                share: 1,
+                size: places - i,
+            })?;
+        }
+        let game = Game {
+            nodes: nodes.as_slice(),
+            own: &[Sight::default()],
+            others: &[],
+            raises: 0,
+            chair: Player::House,
+        };
+        Ok(search::propose(heap, &Silent, game, 2, 5)?.len())
+    }
+
+    #[test]
+    fn search_ends(rt: HostRuntime) -> Result<(), Fail> {
+        let rows = rows_over_chain(rt.alloc(), 1_000_000).map_err(|_| Fail::new("no memory"))?;
+        assert_eq!(rt; rows, 1);
+        Ok(())
     }
 }

@@ -2,7 +2,7 @@
 
 #![tactic(auto)]
 
-ghost use Rattle.std.specs.Prelude.{◌≡◌, ℕ, ◌+◌, ◌<◌, ◌≤◌, List, ◌++◌, length, IfOk, Ok, OnOk, MatchOption};
+ghost use Rattle.std.specs.Prelude.{◌≡◌, ℕ, ◌+◌, ◌*◌, ◌^◌, ◌<◌, ◌≤◌, List, ◌++◌, length, IfOk, Ok, OnOk};
 ghost use Rattle.std.specs.Iterator.{at_most};
 ghost use Rattle.std.specs.List.{flat_map};
 ghost use Rattle.plans.specs.Bytes.{plan_as};
@@ -18,6 +18,16 @@ use tree::{Node, Place, Sight};
 
 // The sights are settled in so many parts, each after a share of the rounds.
 const STAGES: u32 = 5;
+
+// No way through a rule sheet's tree has more places. A walk through other memory ends there.
+const DEPTH: u8 = 40;
+
+// No place of a rule sheet's tree has more trees: a deal has one for each rank. A walk through other memory looks at so many.
+const TREES: u8 = 13;
+
+// The table has room for so many choices at each sight. Where there are two, a rule sheet's tree never looks at the third. A place of
+// other memory may have more trees: the later ones count as choices of the sights that follow.
+const CHOICES: usize = 3;
 
 // Who is told how far the search is.
 // Kept: a closure in its place asks each caller to show that it may be called, and a trait asks nothing.
@@ -45,98 +55,92 @@ struct Choice {
     sum: f64,
 }
 
-// The choices at a sight. Where there are two, the third is never looked at.
-#[derive(Clone, Copy, Default)]
-struct Choices([Choice; 3]);
-
-impl Choices {
-    // Forgets how often each choice was made.
-    fn wipe(&mut self) {
-        for choice in self.0.iter_mut() {
-            choice.sum = 0.0;
-        }
-    }
-
-    // Adds the value of a choice to its regret, and its reach to the average strategy.
-    fn note(&mut self, k: usize, gain: f64, times: f64) {
-        if let Some(choice) = self.0.get_mut(k) {
-            choice.regret += gain;
-            choice.sum += times;
-        }
-    }
-
-    // Subtracts the value of the present plan from each regret.
-    fn level(&mut self, gain: f64) {
-        for choice in self.0.iter_mut() {
-            choice.regret -= gain;
-        }
-    }
-
-    // The next plan: the choices in proportion to their regrets above 0.
-    fn match_regrets(&mut self, offers: u8) {
-        let mut all = 0.0;
-        for choice in self.0.iter_mut().take(offers as usize) {
-            choice.regret = choice.regret.max(0.0);
-            all += choice.regret;
-        }
-        for choice in self.0.iter_mut().take(offers as usize) {
-            choice.plan = if all > 0.0 {
-                choice.regret / all
-            } else {
-                1.0 / offers as f64
-            };
-        }
-    }
-
-    // The weights, rounded from how often each choice was made.
-    fn rounded(&self, offers: u8, m: u32) -> Row
-        ensures { Fair offers m result.weights }
-    {
-        let [a, b, c] = self.0;
-        let c = if offers < 3 { 0.0 } else { c.sum };
-        if a.sum + b.sum + c > 0.0 {
-            let (x, y) = nearest(a.sum, b.sum, c, m);
-            return weighed(x, y, offers, m);
-        }
-        let part = if offers < 3 { m / 2 } else { m / 3 };
-        weighed(part, part, offers, m)
-    }
-
-    // Holds the sight at its weights from now on.
-    fn settle(&mut self, row: Row, m: u32) {
-        for (choice, weight) in self.0.iter_mut().zip(row.weights) {
-            choice.plan = weight as f64 / m as f64;
-        }
+impl Choice {
+    // Adds the value of the choice to its regret, and its reach to the average strategy.
+    fn note(&mut self, gain: f64, times: f64) {
+        self.regret += gain;
+        self.sum += times;
     }
 }
 
-// A tree: its first place, and those below it.
+// The next plan at a sight: the choices in proportion to their regrets above 0.
+fn match_regrets(choices: &mut [Choice], offers: u8) {
+    let mut all = 0.0;
+    for choice in choices.iter_mut().take(offers as usize) {
+        choice.regret = choice.regret.max(0.0);
+        all += choice.regret;
+    }
+    for choice in choices.iter_mut().take(offers as usize) {
+        choice.plan = if all > 0.0 {
+            choice.regret / all
+        } else {
+            1.0 / offers as f64
+        };
+    }
+}
+
+// How often a choice was made, and 0 where there is none.
+fn sum_of(choices: &[Choice], k: usize) -> f64 {
+    choices.get(k).map_or(0.0, |choice| choice.sum)
+}
+
+// The weights of a sight, rounded from how often each choice was made.
+fn rounded(choices: &[Choice], offers: u8, m: u32) -> Row
+    ensures { Fair offers m result.weights }
+{
+    let a = sum_of(choices, 0);
+    let b = sum_of(choices, 1);
+    let c = if offers < 3 { 0.0 } else { sum_of(choices, 2) };
+    if a + b + c > 0.0 {
+        let (x, y) = nearest(a, b, c, m);
+        return weighed(x, y, offers, m);
+    }
+    let part = if offers < 3 { m / 2 } else { m / 3 };
+    weighed(part, part, offers, m)
+}
+
+// Holds a sight at its weights from now on.
+fn settle(choices: &mut [Choice], row: Row, m: u32) {
+    for (choice, weight) in choices.iter_mut().zip(row.weights) {
+        choice.plan = weight as f64 / m as f64;
+    }
+}
+
+// A tree: where its first place stands, and that place.
 #[derive(Clone, Copy)]
 struct Tree<'a> {
+    at: usize,
     root: &'a Node,
-    below: &'a [Node],
 }
 
-// The trees that stand one after the other among these places.
+// The trees that stand one after the other among these nodes.
 // Kept: not `tree::Kids`, which asks that a tree lies there; a search goes over any memory.
 #[derive(Clone, Copy)]
-struct Trees<'a>(&'a [Node]);
+struct Trees<'a> {
+    nodes: &'a [Node],
+    at: usize,
+    left: u8,
+}
 
 impl<'a> Iterator for Trees<'a> {
     type Item = Tree<'a>;
 
-    // Each tree is smaller than what it is taken from.
-    ghost next_gives = { λ s r t. MatchOption r (length t.0.now ≤ length s.0.now) (λ tree. length tree.below.now + length t.0.now < length s.0.now) };
-
-    ghost remaining = { λ s. at_most (length s.0.now) };
+    ghost remaining = { λ s. at_most s.left };
 
     fn next(&mut self) -> Option<Tree<'a>> {
-        let (root, later) = self.0.split_first()?;
-        let size = (root.size as usize).saturating_sub(1).min(later.len());
-        let (below, later) = later.split_at(size);
-        self.0 = later;
-        Some(Tree { root, below })
+        let at = self.at;
+        let root = self.nodes.get(at)?;
+        self.left = self.left.checked_sub(1)?;
+        self.at = at.saturating_add(root.size as usize);
+        Some(Tree { at, root })
     }
+}
+
+// Where the choices of a sight begin in the table, where so many sights come before those of its player.
+fn slot(before: usize, number: usize) -> usize
+    ensures { (before + number) * 3 < 2 ^ 64 → result ≡ (before + number) * 3 }
+{
+    before.saturating_add(number).saturating_mul(CHOICES)
 }
 
 // How likely the learner's choices lead to a place, and how likely all else does.
@@ -146,7 +150,8 @@ struct Reach {
     rest: f64,
 }
 
-// A place as the learner has it where the game goes on: the parts of a deal, or the number of its or the other's sight.
+// A place as the learner has it where the game goes on: the parts of a deal, or where the choices at its or the other's sight
+// begin.
 #[derive(Clone, Copy)]
 enum Seat {
     Deal(f64),
@@ -170,51 +175,66 @@ impl Seat {
     }
 }
 
-// How likely the present plan makes a choice at a sight, and 0 where there is none.
-fn chance(table: &[Choices], number: usize, k: usize) -> f64 {
-    table
-        .get(number)
-        .and_then(|choices| choices.0.get(k))
-        .map_or(0.0, |choice| choice.plan)
-}
-
-// One walk through the tree: who learns, how much it counts, and the choices of the learner and of the other.
+// One walk through the nodes of a game: who learns, how much it counts, and the choices at the sights of both players, those of the player
+// in the chair first.
 #[derive(Drop)]
 struct Walk<'a, 'b> {
+    game: Game<'b>,
     learner: Player,
     counts: f64,
-    own: &'a mut [Choices],
-    others: &'b [Choices],
+    table: &'a mut [Choice],
 }
 
 impl Walk<'_, '_> {
+    // A sight of the learner or of the other.
     fn chosen(&self, who: Player, number: u32) -> Seat {
-        if who == self.learner {
-            Seat::Own(number as usize)
+        let before = if who == self.game.chair {
+            0
         } else {
-            Seat::Other(number as usize)
+            self.game.own.len()
+        };
+        let first = slot(before, number as usize);
+        if who == self.learner {
+            Seat::Own(first)
+        } else {
+            Seat::Other(first)
         }
     }
 
-    // How likely choice or card `k` is.
+    // How likely choice or card `k` is, and 0 past the end of the table.
     fn chance(&self, seat: Seat, share: u32, k: usize) -> f64 {
         match seat {
             Seat::Deal(parts) => share as f64 / parts,
-            Seat::Own(number) => chance(self.own, number, k),
-            Seat::Other(number) => chance(self.others, number, k),
+            Seat::Own(first) | Seat::Other(first) => self
+                .table
+                .get(first.saturating_add(k))
+                .map_or(0.0, |choice| choice.plan),
         }
     }
 
-    // What is known of the choices at a sight of the learner.
-    fn learnt(&mut self, seat: Seat) -> Option<&mut Choices> {
+    // What is known of choice `k` at a sight of the learner.
+    fn learnt(&mut self, seat: Seat, k: usize) -> Option<&mut Choice> {
         match seat {
-            Seat::Own(number) => self.own.get_mut(number),
+            Seat::Own(first) => self.table.get_mut(first.saturating_add(k)),
             Seat::Deal(_) | Seat::Other(_) => None,
         }
     }
 
-    // What the learner has on average from a place on; its regrets and its choices are added up on the way.
-    fn value(&mut self, tree: Tree, reach: Reach) -> f64 {
+    // Subtracts the value of the present plan from the regret of each choice that was gone over.
+    fn level(&mut self, seat: Seat, made: usize, gain: f64) {
+        for k in 0..made {
+            if let Some(choice) = self.learnt(seat, k) {
+                choice.regret -= gain;
+            }
+        }
+    }
+
+    // What the learner has on average from a place on; its regrets and its choices are added up on the way. A place after so many steps
+    // counts as nothing.
+    fn value(&mut self, tree: Tree, reach: Reach, steps: u8) -> f64 {
+        let Some(fewer) = steps.checked_sub(1) else {
+            return 0.0;
+        };
         let seat = match tree.root.place {
             Place::Over(ends) => {
                 return match self.learner {
@@ -226,62 +246,79 @@ impl Walk<'_, '_> {
             Place::House(_, number) => self.chosen(Player::House, number),
             Place::Guest(_, number) => self.chosen(Player::Guest, number),
         };
+        let nodes = self.game.nodes;
+        let end = tree
+            .at
+            .saturating_add(tree.root.size as usize)
+            .min(nodes.len());
+        let trees = Trees {
+            nodes: &nodes[..end],
+            at: tree.at.saturating_add(1),
+            left: TREES,
+        };
         let mut value = 0.0;
-        for (k, kid) in Trees(tree.below).enumerate() {
+        let mut made = 0;
+        for (k, kid) in trees.enumerate() {
             let p = self.chance(seat, kid.root.share, k);
-            let v = self.value(kid, seat.reached(reach, p));
+            let v = self.value(kid, seat.reached(reach, p), fewer);
             value += p * v;
             let times = self.counts * reach.own * p;
-            if let Some(choices) = self.learnt(seat) {
-                choices.note(k, reach.rest * v, times);
+            if let Some(choice) = self.learnt(seat, k) {
+                choice.note(reach.rest * v, times);
             }
+            made = k + 1;
         }
-        if let Some(choices) = self.learnt(seat) {
-            choices.level(reach.rest * value);
-        }
+        self.level(seat, made, reach.rest * value);
         value
     }
 }
 
 // The next plan at each sight but the first few, which are settled.
-fn match_all(sights: &[Sight], raises: u8, settled: usize, table: &mut [Choices]) {
-    for (sight, choices) in sights.iter().zip(table.iter_mut()).skip(settled) {
-        choices.match_regrets(sight.offers(raises));
+fn match_all(sights: &[Sight], raises: u8, settled: usize, table: &mut [Choice]) {
+    for (sight, choices) in sights
+        .iter()
+        .zip(table.chunks_exact_mut(CHOICES))
+        .skip(settled)
+    {
+        match_regrets(choices, sight.offers(raises));
     }
 }
 
 // So many rounds, in each of which either player learns once. The first few own sights are settled.
-fn learn(game: Game, settled: usize, rounds: u32, own: &mut [Choices], others: &mut [Choices]) {
-    let Some(tree) = Trees(game.nodes).next() else {
+fn learn(game: Game, settled: usize, rounds: u32, table: &mut [Choice]) {
+    let Some(root) = game.nodes.first() else {
         return;
     };
+    let tree = Tree { at: 0, root };
     let reach = Reach {
         own: 1.0,
         rest: 1.0,
     };
-    own.iter_mut().for_each(|choices| choices.wipe());
-    others.iter_mut().for_each(|choices| choices.wipe());
-    match_all(game.own, game.raises, settled, own);
-    match_all(game.others, game.raises, 0, others);
+    let ours = slot(0, game.own.len()).min(table.len());
+    for choice in table.iter_mut() {
+        choice.sum = 0.0;
+    }
+    match_all(game.own, game.raises, settled, &mut table[..ours]);
+    match_all(game.others, game.raises, 0, &mut table[ours..]);
     for i in 0..rounds {
         // later rounds count more, by the square
         let counts = i as f64 * i as f64;
         Walk {
+            game,
             learner: game.chair,
             counts,
-            own,
-            others,
+            table,
         }
-        .value(tree, reach);
-        match_all(game.own, game.raises, settled, own);
+        .value(tree, reach, DEPTH);
+        match_all(game.own, game.raises, settled, &mut table[..ours]);
         Walk {
+            game,
             learner: game.chair.other(),
             counts,
-            own: others,
-            others: own,
+            table,
         }
-        .value(tree, reach);
-        match_all(game.others, game.raises, 0, others);
+        .value(tree, reach, DEPTH);
+        match_all(game.others, game.raises, 0, &mut table[ours..]);
     }
 }
 
@@ -338,20 +375,20 @@ pub fn propose<P: Progress>(
 ) -> Result<Vec<Row>, AllocError>
     ensures { IfOk result (λ v. Taken game.entry.raises m game.entry.own.now v.items) }
 {
-    let mut own = vec![in heap; Choices::default(); game.own.len()]?;
-    let mut others = vec![in heap; Choices::default(); game.others.len()]?;
-    let own = own.as_mut_slice();
-    let others = others.as_mut_slice();
+    let slots = slot(game.own.len(), game.others.len());
+    let mut table = vec![in heap; Choice::default(); slots]?;
+    let table = table.as_mut_slice();
     let step = game.own.len() / STAGES as usize + 1;
     let mut rows = Vec::new(heap);
     for (i, sight) in game.own.iter().enumerate() {
         if i % step == 0 {
             progress.stage(i, game.own.len());
-            learn(game, i, rounds / STAGES, own, others);
+            learn(game, i, rounds / STAGES, table);
         }
-        let choices = &mut own[i];
-        let row = choices.rounded(sight.offers(game.raises), m);
-        choices.settle(row, m);
+        let first = slot(0, i).min(table.len());
+        let choices = &mut table[first..];
+        let row = rounded(choices, sight.offers(game.raises), m);
+        settle(choices, row, m);
         rows.push(row)?;
     }
     Ok(rows)
