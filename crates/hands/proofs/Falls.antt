@@ -100,7 +100,7 @@ Deals m parts nodes first x i y =
     (k n : ℕ) (plan : Plan) (counts : ℕ → ℕ) (ws : List ℕ) (ts : Trees) → Weighed k m parts nodes first ws ts →
     Falling m n plan counts ws ts x → Along m n plan counts (Weighed k m parts nodes) (first + places_all ts) ws ts x i y
 
-deals_sure : (m parts : ℕ) (nodes : List Node) (first x i y : ℕ) → (s : SomeDeal m parts nodes first x) → Deals m parts nodes first x i y → ((0 < parts) × (i < length nodes) × (length nodes < 2 ^ 32)) × (i < first + places_all s.ts)
+pub deals_sure : (m parts : ℕ) (nodes : List Node) (first x i y : ℕ) → (s : SomeDeal m parts nodes first x) → Deals m parts nodes first x i y → ((0 < parts) × (i < length nodes) × (length nodes < 2 ^ 32)) × (i < first + places_all s.ts)
 deals_sure m parts nodes first x i y s inv =
     let a = inv s.k s.n s.plan s.counts s.ws s.ts s.weighed s.falls in
     let f = deal_front s.k m s.n parts s.plan s.counts nodes i y a.weights a.trees a.lie a.falls in (
@@ -108,13 +108,13 @@ deals_sure m parts nodes first x i y s inv =
       omega (arith, a.ends, ap places_all f.is_trees, places_pos f.tree),
     )
 
-deals_more : (m parts : ℕ) (nodes : List Node) (first x i y : ℕ) → Deals m parts nodes first x i y → m * (node_at nodes i).share / parts ≤ y → Deals m parts nodes first x (i + (node_at nodes i).size) (y - m * (node_at nodes i).share / parts)
+pub deals_more : (m parts : ℕ) (nodes : List Node) (first x i y : ℕ) → Deals m parts nodes first x i y → m * (node_at nodes i).share / parts ≤ y → Deals m parts nodes first x (i + (node_at nodes i).size) (y - m * (node_at nodes i).share / parts)
 deals_more m parts nodes first x i y inv le k n plan counts ws ts h f =
     let a = inv k n plan counts ws ts h f in
     let L = Weighed k m parts nodes in
     along_more k m n plan counts nodes L L (first + places_all ts) ws ts x i y (m * (node_at nodes i).share / parts) a (deal_front k m n parts plan counts nodes i y a.weights a.trees a.lie a.falls) le
 
-deals_here :
+pub deals_here :
     (m parts : ℕ) (nodes : List Node) (first x i y : ℕ) → Deals m parts nodes first x i y → y < m * (node_at nodes i).share / parts →
     (k n : ℕ) (plan : Plan) (counts : ℕ → ℕ) (ws : List ℕ) (ts : Trees) → Weighed k m parts nodes first ws ts → Falling m n plan counts ws ts x → Fallen k m n plan counts nodes ws ts x i
 deals_here m parts nodes first x i y inv lt k n plan counts ws ts h f =
@@ -156,7 +156,7 @@ Passes nodes W first x j i y =
     (k m n q : ℕ) (plan : Plan) (counts : ℕ → ℕ) (ts : Trees) → Reps k m nodes first ts →
     Falling m n plan counts (take q W) ts x → Along m n plan counts (Beside k m nodes (drop j (take q W))) (first + places_all ts) (take q W) ts x i y
 
-passes_sure : (nodes : List Node) (row : Row) (first x j i y : ℕ) → (s : SomeRow nodes row first x) → Passes nodes row.weights first x j i y → (j < length row.weights) × (i < first + places_all s.ts)
+pub passes_sure : (nodes : List Node) (row : Row) (first x j i y : ℕ) → (s : SomeRow nodes row first x) → Passes nodes row.weights first x j i y → (j < length row.weights) × (i < first + places_all s.ts)
 unfolding total many
 passes_sure nodes row first x j i y s inv =
     let W = row.weights in
@@ -165,16 +165,16 @@ passes_sure nodes row first x j i y s inv =
     let l : suc (length f.others) ≡ length (take s.q W) - j = sym (ap length f.is_weights) ∙ (ap length a.lie.0 ∙ length-drop j (take s.q W)) in
     (omega (arith, length-take s.q W), omega (arith, a.ends, ap places_all f.is_trees, places_pos f.tree))
 
-passes_none : (nodes : List Node) (W : List ℕ) (first x : ℕ) → Passes nodes W first x 0 first x
+pub passes_none : (nodes : List Node) (W : List ℕ) (first x : ℕ) → Passes nodes W first x 0 first x
 passes_none nodes W first x k m n q plan counts ts lie f = along_none m n plan counts (Beside k m nodes (take q W)) (take q W) ts x first (refl, lie) f
 
-passes_more : (nodes : List Node) (W : List ℕ) (first x j i y : ℕ) → Passes nodes W first x j i y → get_or W j 0 ≤ y → Passes nodes W first x (j + 1) (i + (node_at nodes i).size) (y - get_or W j 0)
+pub passes_more : (nodes : List Node) (W : List ℕ) (first x j i y : ℕ) → Passes nodes W first x j i y → get_or W j 0 ≤ y → Passes nodes W first x (j + 1) (i + (node_at nodes i).size) (y - get_or W j 0)
 passes_more nodes W first x j i y inv le k m n q plan counts ts lie h =
     let a = inv k m n q plan counts ts lie h in
     along_more k m n plan counts nodes (Beside k m nodes (drop j (take q W))) (Beside k m nodes (drop (j + 1) (take q W))) (first + places_all ts) (take q W) ts x i y (get_or W j 0) a
     (row_front k m n q j W plan counts nodes i y a.weights a.trees a.lie a.falls) le
 
-passes_here :
+pub passes_here :
     (nodes : List Node) (W : List ℕ) (first x j i y : ℕ) → Passes nodes W first x j i y → y < get_or W j 0 →
     (k m n q : ℕ) (plan : Plan) (counts : ℕ → ℕ) (ts : Trees) → Reps k m nodes first ts → Falling m n plan counts (take q W) ts x → Fallen k m n plan counts nodes (take q W) ts x i
 passes_here nodes W first x j i y inv lt k m n q plan counts ts lie h =

@@ -1,5 +1,5 @@
 -- A match in bytes, hand by hand.
-use Rattle.std.proofs.Common.{◌≡◌, ℕ, zero, suc, ◌-◌, ◌*◌, ◌<◌, ◌≤◌, List, [], ◌∷◌, length, Some, Result, sym, refl, ap, ◌∙◌, arith}
+use Rattle.std.proofs.Common.{◌≡◌, ℕ, zero, suc, ◌-◌, ◌*◌, ◌<◌, ◌≤◌, List, [], ◌∷◌, length, Some, None, Result, sym, refl, ap, ◌∙◌, arith}
 use Rattle.std.proofs.lemmas.List.{length-drop}
 use Rattle.cards.specs.Game.{Tree, Plan}
 use Rattle.cards.specs.Played.{played_all, played}
@@ -28,6 +28,10 @@ hands_enough (suc f) (suc g) (b ∷ bs) h l =
     let s = first_shorter (b ∷ bs) (omega arith) in
     ap (λ v. hand_of (first_of (b ∷ bs)) ∷ v) (hands_enough f g (first_of (b ∷ bs)).rest (omega arith) (omega arith))
 
+pub hands_none : hands_of [] ≡ []
+unfolding hands_of
+hands_none = refl
+
 pub hands_more : (bs : List ℕ) → 1 ≤ length bs → hands_of bs ≡ hand_of (first_of bs) ∷ hands_of (first_of bs).rest
 unfolding hands_of
 hands_more [] h = absurd (omega arith)
@@ -42,7 +46,15 @@ cut_more (b ∷ bs) l e =
     let u : first_of (b ∷ bs) ≡ l = cc in
     hands_more (b ∷ bs) (omega arith) ∙ ap (λ v. hand_of v ∷ hands_of v.rest) u
 
+pub cut_none : (bs : List ℕ) → cut_of bs ≡ None → bs ≡ []
+cut_none [] e = refl
+cut_none (b ∷ bs) e = let z : ◌≡◌ {A = ℕ} 0 1 = cc in absurd (omega arith)
+
 pub first_ends :
     (k m : ℕ) (plan : Plan) (t : Tree) (bs cs ws rest : List ℕ) (r : Result Ends Refusal) → cut_of bs ≡ Some (lists cs ws rest) → Ended k (played m plan t cs (words_of ws)) r → First k m plan t bs r rest
 first_ends k m plan t bs cs ws rest r e h =
     record { outcome = ap (λ v. played_all m plan t v) (cut_more bs (lists cs ws rest) e) ∙ ap (λ v. v ∷ outcomes_of m plan t rest) (sym h.outcome); shared = h.shared }
+
+-- no bytes, no hands
+pub outcomes_none : (m : ℕ) (plan : Plan) (t : Tree) → outcomes_of m plan t [] ≡ []
+outcomes_none m plan t = ap (λ v. played_all m plan t v) hands_none

@@ -30,10 +30,18 @@ a_raise c (suc zero) i h = absurd (omega arith)
 a_raise c (suc (suc k)) zero h = refl
 a_raise c (suc (suc k)) (suc i) h = a_raise c (suc k) i (omega arith)
 
+pub called_first : (c k : ℕ) → 0 < k → nth (ended c k) 0 ≡ Some 1
+called_first c zero h = absurd (omega arith)
+called_first c (suc k) h = refl
+
 pub called_after : (c k i : ℕ) → 0 < k → 0 < i → nth (ended c k) i ≡ nth (listed c k) (i - 1)
 called_after c zero i h j = absurd (omega arith)
 called_after c (suc k) zero h j = absurd (omega arith)
 called_after c (suc k) (suc i) h j = let e : i ≡ suc i - 1 = omega arith in ap (nth (listed c (suc k))) e
+
+pub checked_end : (c k i : ℕ) → k ≡ 0 → nth (ended c k) i ≡ nth (listed c k) i
+checked_end c zero i h = refl
+checked_end c (suc k) i h = absurd (omega arith)
 
 checks_length : (c : ℕ) → length (checks_listed c) ≡ c
 checks_length zero = refl

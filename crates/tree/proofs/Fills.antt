@@ -82,7 +82,7 @@ put_whole : {X : Type 0} (xs ys : List X) → length xs ≡ length ys → put xs
 unfolding put
 put_whole xs ys e = ap (λ l. ys ++ l) (drop_all (0 + length ys) xs (omega arith)) ∙ append-nil ys
 
-all_zero : (n k : ℕ) → ◌≡◌ {A = ℕ} (get_or (replicate n 0) k 0) 0
+pub all_zero : (n k : ℕ) → ◌≡◌ {A = ℕ} (get_or (replicate n 0) k 0) 0
 all_zero zero k = refl
 all_zero (suc n) zero = refl
 all_zero (suc n) (suc k) = all_zero n k
@@ -100,7 +100,7 @@ module _ (s : Sheet) (h : Sound s) where
   pub sights_length : (w : Player) → length (sights_of w (game_as s)) ≡ length (S.sights w (R.game s))
   sights_length w = sym (ap length (sights_to s.ranks s.raises s.public w like) ∙ length-map (sights_of w (game_as s)) told)
 
-  ready : (w : Player) (n1 : List Node) (room : ℕ) (t : List ℕ) → n1 ≡ raw 0 (game_as s) → length (S.sights w (R.game s)) ≤ room →
+  pub ready : (w : Player) (n1 : List Node) (room : ℕ) (t : List ℕ) → n1 ≡ raw 0 (game_as s) → length (S.sights w (R.game s)) ≤ room →
       Large s.ranks s.public (length t) → ((k : ℕ) → get_or t k 0 ≡ 0) → Ready n1 w room t
   ready w n1 room t e hr ht z = record {
     room_is = (let a = ap (λ l. length (noted [] l)) (seen_is w n1 e) in let b = sights_length w in omega (arith, a, b));

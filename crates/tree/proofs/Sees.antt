@@ -1,7 +1,7 @@
 -- Looking sights up, noting and numbering them. Assumes nothing.
 use Rattle.std.proofs.Common.{◌≡◌, ℕ, suc, ◌+◌, ◌<◌, ◌≤◌, Bool, true, false, ◌||◌, List, [], ◌∷◌, ◌++◌, map, length, get_or, take, drop, set, Some, None, sym, refl, ap, ◌∙◌, arith, take-append-drop}
 use Rattle.cards.specs.Game.{pick}
-use Rattle.std.proofs.lemmas.List.{append_assoc, append-nil, take_more, drop_more, length-take-le, set_at, get_or_at, map_more, map-append, length-map, length_push}
+use Rattle.std.proofs.lemmas.List.{append_assoc, append-nil, take_more, drop_more, drop_all, length-take-le, take_at, set_at, get_or_at, map_more, map-append, length-map, length_push}
 use Rattle.rules.specs.declared.Player.{Player}
 use Rattle.rules.specs.declared.Player.TheVariants.{House, Guest}
 use Rattle.tree.specs.declared.Sight.{Sight}
@@ -15,9 +15,35 @@ use Rattle.tree.specs.Seen.{same_stored_sight, place_of, known, noted, as_list, 
 use Rattle.tree.proofs.Put.{put_one, put_more}
 use Rattle.tree.proofs.Lay.{raws}
 
+-- a look-up, from i on
+pub place_skip : (z : Sight) (xs : List Sight) (i : ℕ) (d : Sight) → i < length xs → same_stored_sight z (get_or xs i d) ≡ false →
+    place_of z xs ≡ i + place_of z (drop i xs) → place_of z xs ≡ (i + 1) + place_of z (drop (i + 1) xs)
+place_skip z xs i d h e inv =
+    let a = ap (place_of z) (drop_more xs i d h) in
+    let b : place_of z (get_or xs i d ∷ drop (i + 1) xs) ≡ suc (place_of z (drop (i + 1) xs)) = ap (λ b. pick b 0 (suc (place_of z (drop (i + 1) xs)))) e in
+    omega (arith, inv, a, b)
+
+pub place_here : (z : Sight) (xs : List Sight) (i : ℕ) (d : Sight) → i < length xs → same_stored_sight z (get_or xs i d) ≡ true →
+    place_of z xs ≡ i + place_of z (drop i xs) → i ≡ place_of z xs
+place_here z xs i d h e inv =
+    let a = ap (place_of z) (drop_more xs i d h) in
+    let b : place_of z (get_or xs i d ∷ drop (i + 1) xs) ≡ 0 = ap (λ b. pick b 0 (suc (place_of z (drop (i + 1) xs)))) e in
+    omega (arith, inv, a, b)
+
+pub place_none : (z : Sight) (xs : List Sight) (i : ℕ) → length xs ≤ i → place_of z xs ≡ i + place_of z (drop i xs) → i ≡ place_of z xs
+place_none z xs i h inv = let a = ap (place_of z) (drop_all i xs h) in omega (arith, inv, a)
+
 one_less : (b : Bool) (p n : ℕ) → pick b 0 (suc p) ≡ suc n → (b ≡ false) × (p ≡ n)
 one_less true p n e = absurd (omega (arith, e))
 one_less false p n e = (refl, omega (arith, e))
+
+most_of : (b : Bool) (p n : ℕ) → p ≤ n → pick b 0 (suc p) ≤ suc n
+most_of true p n h = omega arith
+most_of false p n h = omega arith
+
+pub place_most : (z : Sight) (xs : List Sight) → place_of z xs ≤ length xs
+place_most z [] = omega arith
+place_most z (y ∷ xs) = most_of (same_stored_sight z y) (place_of z xs) (length xs) (place_most z xs)
 
 pub unknown : (z : Sight) (xs : List Sight) → place_of z xs ≡ length xs → known z xs ≡ false
 unknown z [] e = refl
@@ -80,6 +106,11 @@ list_most w ns i =
     ap (λ l. noted [] (seen_in w l)) (sym (take-append-drop i ns)) ∙ ap (noted []) (seen_append w (take i ns) (drop i ns)) ∙ noted_append [] (seen_in w (take i ns)) (seen_in w (drop i ns)) in
     let l = ap length e in
     let m = noted_most (list w ns i) (seen_in w (drop i ns)) in omega (arith, l, m)
+
+-- in memory
+pub noted_front : (zs s0 s : List Sight) (n : ℕ) → Noted zs s0 s n → take n s ≡ zs
+unfolding put
+noted_front zs s0 s n q = ap (take n) q.holds ∙ take_at zs (drop (0 + length zs) s0) n (sym q.count)
 
 pub noted_same : (zs ys s0 s : List Sight) (n : ℕ) → ys ≡ zs → Noted zs s0 s n → Noted ys s0 s n
 noted_same zs ys s0 s n e q = record { count = q.count ∙ ap length (sym e); holds = q.holds ∙ ap (put s0 0) (sym e) }

@@ -212,7 +212,7 @@ pub record Plain (nodes : List Node) (rows : List Row) (m : ℕ) (powers : List 
   pub tree : Tree
   pub facts : KidFacts told tree nodes rows m powers room glen k at v e
 
-plain : (nodes : List Node) (rows : List Row) (m : ℕ) (powers : List ℕ) (len : ℕ) (e : Entry) (before later : List Entry) (k at v : ℕ) (g : Grown) →
+pub plain : (nodes : List Node) (rows : List Row) (m : ℕ) (powers : List ℕ) (len : ℕ) (e : Entry) (before later : List Entry) (k at v : ℕ) (g : Grown) →
     SomeReady nodes rows m powers (length before) len e → Chance (node_at nodes e.at).place → Inv nodes rows m powers len e before later k at g → length later ≡ length before →
     at < e.at + (node_at nodes e.at).size → v ≡ weight_at nodes rows m (node_at nodes e.at).place at k →
     Plain nodes rows m powers (length later) g.len k at v e
