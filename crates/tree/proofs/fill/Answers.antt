@@ -1,6 +1,7 @@
 use Rattle.std.proofs.Common.{inl, inr, arith}
 use Rattle.rules.specs.declared.Player.TheVariants.{House, Guest}
 use Rattle.tree.proofs.Fills.{whole, blank_ready, filled, begun}
+use Rattle.tree.specs.declared.TheConstants.{FEW_SLOTS}
 use Rattle.tree.proofs.Measures.{size_is}
 use Rattle.tree.proofs.fill.Goals as goal
 
@@ -12,14 +13,14 @@ index-requires-clause-ours c =
     let s = c.args.game.sheet in
     let h = c.args.game.sound in
     let r = c.if-game-le3.true in
-    blank_ready s h House _ _ 11700 (whole s h _ _ _ c.requires.exact c.written.ensures) c.requires.house (inl (c.if-game.true, omega arith))
+    blank_ready s h House _ _ FEW_SLOTS (whole s h _ _ _ c.requires.exact c.written.ensures) c.requires.house (inl (c.if-game.true, omega arith))
 
 pub index-requires-clause-theirs : goal.index-requires-clause-theirs
 index-requires-clause-theirs c =
     let s = c.args.game.sheet in
     let h = c.args.game.sound in
     let r = c.if-game-le3.true in
-    blank_ready s h Guest _ _ 11700 (whole s h _ _ _ c.requires.exact c.written.ensures) c.requires.guest (inl (c.if-game.true, omega arith))
+    blank_ready s h Guest _ _ FEW_SLOTS (whole s h _ _ _ c.requires.exact c.written.ensures) c.requires.guest (inl (c.if-game.true, omega arith))
 
 pub index-requires-else-game-le3-clause-ours : goal.index-requires-else-game-le3-clause-ours
 index-requires-else-game-le3-clause-ours c =
